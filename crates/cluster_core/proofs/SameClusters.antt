@@ -9,13 +9,14 @@ use Rattle.step_kinds.specs.declared.steps.Step.TheVariants.{Land}
 use Rattle.fabric_core.specs.InFlight.{LandsNoneFrom as LandsNoneOnBridges}
 use Rattle.ledger_laws.proofs.Facade.{log_of-last}
 use Rattle.memory_model.specs.Memory.{memory_of}
+use Rattle.switch_log.specs.Log.{answer_after}
 use Rattle.switch_log.specs.Network.{Network}
 use Rattle.fabric_core.specs.LogClauses.{HasMade as HasMadeOnBridges, IsAnswered as IsAnsweredOnBridges, log_after as log_on_bridges}
 use Rattle.fabric_core.proofs.Facade.{one_list_makes_same, same_has_made_same, same_keys as same_fabrics_keys}
 use Rattle.cluster_core.specs.Cluster.{ClusterState, plan_held}
 use Rattle.cluster_core.specs.InFlight.{LandsNoneFrom}
 use Rattle.cluster_core.specs.Laws.{OneAnswer, SameKeys, SameSteps}
-use Rattle.cluster_core.specs.LogClauses.{HasMade, IsNetwork, answer_after, network_after}
+use Rattle.cluster_core.specs.LogClauses.{HasMade, IsNetwork, network_after}
 use Rattle.cluster_core.proofs.Networks.{network-last}
 use Rattle.cluster_core.proofs.RefusedAgain.{answer_on_bridges, item_answer}
 
@@ -39,6 +40,7 @@ same_keys plan common cluster other made owns =
 
 -- the last item of the log has the answer
 pub one_answer : OneAnswer
+unfolding answer_after
 one_answer plan steps step answer is = sym (item_answer plan steps step answer is)
 
 -- Two clusters, of which a call says that their fabrics have made the same
@@ -83,7 +85,8 @@ module _ (plan : Plan) (steps : List Step) (pair : ℕ) (side : Side) (place : �
   switches_stayed cluster other made owns = made.switches ∙ sym (subst (λ (net : Network (List ℕ)). IsNetwork plan net other) landed_network owns).switches
 
   -- the bridges answer as the network does
-  pub answered_on_bridges : (answer : Answer) → answer_after plan steps (Land pair side place) ≡ answer → IsAnsweredOnBridges plan (network_after plan steps).steps (Land pair side place) answer
+  pub answered_on_bridges : (answer : Answer) → answer_after plan (memory_of plan) steps (Land pair side place) ≡ answer → IsAnsweredOnBridges plan (network_after plan steps).steps (Land pair side place) answer
+  unfolding answer_after
   answered_on_bridges answer is =
       let net = network_after plan steps in
       log_of-last plan (memory_of plan) net.steps (Land pair side place)
@@ -93,6 +96,7 @@ module _ (plan : Plan) (steps : List Step) (pair : ℕ) (side : Side) (place : �
 
 -- the network answers as the log of its bridges goes on
 pub lands_none : (cluster : ClusterState) (pair : ℕ) (side : Side) (count : ℕ) → LandsNoneOnBridges cluster.fabric pair side count → LandsNoneFrom cluster pair side count
+unfolding answer_after
 lands_none cluster pair side count none plan steps made place beyond =
     let net = network_after plan steps in
     answer_on_bridges plan net (Land pair side place) Nothing (none plan net.steps made.bridges place beyond) refl

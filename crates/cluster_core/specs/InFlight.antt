@@ -7,13 +7,15 @@ use Rattle.step_kinds.specs.declared.steps.Step.{Step}
 use Rattle.step_kinds.specs.declared.steps.Step.TheVariants.{Land}
 use Rattle.fabric_core.specs.InFlight.{fabric_key, fabric_key_without}
 use Rattle.cluster_core.specs.Cluster.{ClusterState}
-use Rattle.cluster_core.specs.LogClauses.{HasMade, answer_after}
+use Rattle.memory_model.specs.Memory.{memory_of}
+use Rattle.switch_log.specs.Log.{answer_after}
+use Rattle.cluster_core.specs.LogClauses.{HasMade}
 
 -- whatever steps a cluster has made, a landing of that side at this place or a later one is answered `nothing` after
 -- them
 abbrev pub LandsNoneFrom : ClusterState → ℕ → Side → ℕ → Type 0
 LandsNoneFrom cluster pair side count =
-    (plan : Plan) (steps : List Step) → HasMade plan steps cluster → (place : ℕ) → count ≤ place → answer_after plan steps (Land pair side place) ≡ Nothing
+    (plan : Plan) (steps : List Step) → HasMade plan steps cluster → (place : ℕ) → count ≤ place → answer_after plan (memory_of plan) steps (Land pair side place) ≡ Nothing
 
 -- of the labels in flight, by their kinds and low bytes of their numbers
 abbrev pub key_of : ClusterState → List ℕ

@@ -10,8 +10,7 @@ use Rattle.ledger_model.specs.Log.{Answered, accepted, counters_in, delivered, f
 use Rattle.memory_model.specs.Memory.{memory_of}
 use Rattle.fabric_core.specs.LogClauses.{HasMade as HasMadeOnBridges}
 use Rattle.switch_log.specs.Log.{network_of, switch_log}
-use Rattle.switch_log.specs.Network.{Network, next_item}
-use Rattle.switch_log.specs.Origins.{bytes_kept}
+use Rattle.switch_log.specs.Network.{Network}
 use Rattle.cluster_core.specs.Cluster.{ClusterState}
 
 -- the log of steps and the network after them, whose memories show what was stored
@@ -36,10 +35,6 @@ HasMade plan steps cluster = IsNetwork plan (network_after plan steps) cluster
 pub record IsAnswered (plan : Plan) (steps : List Step) (step : Step) (answer : Answer) : Type 0 where
   pub stands_as : Step
   pub goes_on : log_after plan (steps ++ step ∷ []) ≡ log_after plan steps ++ record { step = stands_as; answer = answer } ∷ []
-
--- what the log answers to a step after these steps
-abbrev pub answer_after : Plan → List Step → Step → Answer
-answer_after plan steps step = (next_item bytes_kept plan (memory_of plan) (network_after plan steps) step).answer
 
 -- whatever steps a cluster has made, these are the frames of a lane in a session that their log has
 

@@ -13,7 +13,9 @@ ghost use Rattle.plan_model.specs.Switches.{AreSwitches, IsMakeable};
 ghost use Rattle.cluster_core.specs.Cluster.{plan_held};
 ghost use Rattle.cluster_core.specs.ClusterStep.{HasStepped};
 ghost use Rattle.cluster_core.specs.InFlight.{LandsNoneFrom, key_of, key_without};
-ghost use Rattle.cluster_core.specs.LogClauses.{AreCounters, HasMade, IsAccepted, IsDelivered, IsSession, answer_after};
+ghost use Rattle.memory_model.specs.Memory.{memory_of};
+ghost use Rattle.switch_log.specs.Log.{answer_after};
+ghost use Rattle.cluster_core.specs.LogClauses.{AreCounters, HasMade, IsAccepted, IsDelivered, IsSession};
 ghost use Rattle.cluster_core.specs.Moves.{CanBeSent, HasWaiting, arrived_in, brought_in, relay_answer_in, relayed_in, sending_in, sends_next, taken_in};
 ghost use Rattle.cluster_core.specs.Parts.{HasDeviceOn, IsPortAmong};
 
@@ -250,7 +252,7 @@ impl Cluster {
         requires plans { plan_held self.now ≡ plan_held other.now }
         requires pair { IsPairOf (plan_held self.now) pair }
         ensures merges { result ≡ true → (plan : PlanValue) (steps : List MadeStep) → HasMade plan steps self.now → HasMade plan (steps ++ Land pair side place ∷ []) other.now }
-        ensures apart { (plan : PlanValue) (steps : List MadeStep) (label : LabelValue) → HasMade plan steps self.now → answer_after plan steps (Land pair side place) ≡ Landed label → HasMade plan (steps ++ Land pair side place ∷ []) other.now → result ≡ true }
+        ensures apart { (plan : PlanValue) (steps : List MadeStep) (label : LabelValue) → HasMade plan steps self.now → answer_after plan (memory_of plan) steps (Land pair side place) ≡ Landed label → HasMade plan (steps ++ Land pair side place ∷ []) other.now → result ≡ true }
     {
         self.fabric.lands_as(pair, side, place, &other.fabric)
             && are_same_switches(&self.switches, &other.switches)

@@ -9,7 +9,9 @@ use Rattle.step_kinds.specs.declared.steps.Step.TheVariants.{Begin, Post, ShowQu
 use Rattle.ledger_model.specs.Examples.{letter, small_pair}
 use Rattle.report_text.specs.Report.{line_of}
 use Rattle.explore_model.specs.Outcomes.{IsOutcome, answers_cmp}
-use Rattle.explore_model.specs.Schedules.{answer_after, is_landed, landing_step}
+use Rattle.memory_model.specs.Memory.{memory_of}
+use Rattle.switch_log.specs.Log.{answer_after}
+use Rattle.explore_model.specs.Schedules.{is_landed, landing_step}
 use Rattle.explore_model.specs.Texts.{explored_text, landing_line}
 use Rattle.explore_model.specs.declared.outcome.Landing.{Landing}
 use Rattle.explore_model.specs.declared.outcome.Outcome.{Outcome}
@@ -50,8 +52,8 @@ pub record BothAreOutcomes : Type 0 where
 
 -- before the write is posted no landing is answered `landed`, and after it no second one
 pub record NoOtherLands : Type 0 where
-  pub early : is_landed (answer_after plan (Begin 0 A 0 letter ∷ []) (landing_step landing)) ≡ false
-  pub late : is_landed (answer_after plan (Begin 0 A 0 letter ∷ Post 0 A 0 ∷ landing_step landing ∷ []) (landing_step landing)) ≡ false
+  pub early : is_landed (answer_after plan (memory_of plan) (Begin 0 A 0 letter ∷ []) (landing_step landing)) ≡ false
+  pub late : is_landed (answer_after plan (memory_of plan) (Begin 0 A 0 letter ∷ Post 0 A 0 ∷ landing_step landing ∷ []) (landing_step landing)) ≡ false
 
 -- one state before the first step and one before the second; two before the third, as the write has landed or not
 abbrev pub Shown : Type 0

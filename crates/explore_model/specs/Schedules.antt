@@ -7,21 +7,13 @@ use Rattle.step_kinds.specs.declared.steps.Step.{Step}
 use Rattle.step_kinds.specs.declared.steps.Step.TheVariants.{Land}
 use Rattle.plan_model.specs.DeclaredPlans.{IsPairOf}
 use Rattle.memory_model.specs.Memory.{memory_of}
-use Rattle.switch_log.specs.Log.{network_of}
-use Rattle.switch_log.specs.Network.{action_of, item_of}
-use Rattle.switch_log.specs.Origins.{bytes_kept}
+use Rattle.switch_log.specs.Log.{answer_after}
 use Rattle.report_text.specs.Texts.{answer_text}
 use Rattle.explore_model.specs.declared.outcome.Landing.{Landing}
 
--- what a step of a plan is answered after these steps, where memories show what was stored
-unfoldable pub answer_after : Plan → List Step → Step → Answer
-answer_after plan steps step =
-    let net = network_of plan (memory_of plan) steps in
-    (item_of bytes_kept plan (memory_of plan) net step (action_of plan net.switches step)).answer
-
--- the text of that answer
+-- the text of what a step of a plan is answered after these steps, where memories show what was stored
 abbrev pub text_after : Plan → List Step → Step → List ℕ
-text_after plan steps step = answer_text (answer_after plan steps step)
+text_after plan steps step = answer_text (answer_after plan (memory_of plan) steps step)
 
 -- whether a landing was answered `landed`
 abbrev pub is_landed : Answer → Bool
@@ -45,7 +37,7 @@ pub data Runs (plan : Plan) : (script : List Step) (landings : List Landing) (ma
   -- a further landing
   lands : {script : List Step} {landings : List Landing} {made : List Step} {answers : List (List ℕ)} (landing : Landing) →
       Runs plan script landings made answers → landing.at ≡ length script → IsLanding plan landing →
-      is_landed (answer_after plan made (landing_step landing)) ≡ true →
+      is_landed (answer_after plan (memory_of plan) made (landing_step landing)) ≡ true →
       Runs plan script (landings ++ landing ∷ []) (made ++ landing_step landing ∷ []) answers
   -- the next step of the script
   goes_on : {script : List Step} {landings : List Landing} {made : List Step} {answers : List (List ℕ)} (step : Step) →

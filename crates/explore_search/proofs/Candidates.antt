@@ -12,7 +12,8 @@ use Rattle.step_kinds.specs.declared.steps.Answer.TheVariants.{Nothing}
 use Rattle.step_kinds.specs.declared.steps.Step.{Step}
 use Rattle.step_kinds.specs.declared.steps.Step.TheVariants.{Land}
 use Rattle.plan_model.specs.DeclaredPlans.{IsPairOf}
-use Rattle.explore_model.specs.Schedules.{answer_after}
+use Rattle.memory_model.specs.Memory.{memory_of}
+use Rattle.switch_log.specs.Log.{answer_after}
 use Rattle.explore_model.specs.declared.outcome.Landing.{Landing}
 use Rattle.explore_search.specs.Machines.{HaveSameSteps}
 use Rattle.explore_search.specs.Spread.{AreAdded, AreTried, IsNext, IsOfSide}
@@ -59,7 +60,7 @@ module _ {M : Type 0} (has_made : M → Plan → List Step → Type 0) (plan : P
 
   -- from the number of writes in flight on nothing lands
   pub all_of_side : (pair : ℕ) (side : Side) (count places : ℕ) (old now : List Landing) → min count 4294967296 ≤ places →
-      ((steps : List Step) (place : ℕ) → has_made machine plan steps → count ≤ place → answer_after plan steps (Land pair side place) ≡ Nothing) →
+      ((steps : List Step) (place : ℕ) → has_made machine plan steps → count ≤ place → answer_after plan (memory_of plan) steps (Land pair side place) ≡ Nothing) →
       AreAdded has_made plan done machine (λ landing. (landing.pair ≡ pair) × (landing.side ≡ side) × (landing.place < places)) old now →
       AreAdded has_made plan done machine (IsOfSide pair side) old now
   all_of_side pair side count places old now past idle before =
@@ -70,8 +71,8 @@ module _ {M : Type 0} (has_made : M → Plan → List Step → Type 0) (plan : P
             elim (cases_lt landing.place places) [
               | inl below ↦ before.all landing next (of.0, of.1, below)
               | inr beyond ↦ inr (λ made has.
-                  subst (λ (pair : ℕ). answer_after plan made (Land pair landing.side landing.place) ≡ Nothing) (sym of.0)
-                  (subst (λ (side : Side). answer_after plan made (Land pair side landing.place) ≡ Nothing) (sym of.1)
+                  subst (λ (pair : ℕ). answer_after plan (memory_of plan) made (Land pair landing.side landing.place) ≡ Nothing) (sym of.0)
+                  (subst (λ (side : Side). answer_after plan (memory_of plan) made (Land pair side landing.place) ≡ Nothing) (sym of.1)
                   (idle made landing.place has (omega (arith, next.may.place)))))
             ];
       }

@@ -6,7 +6,9 @@ use Rattle.std.proofs.lemmas.List.Elements.{All-push}
 use Rattle.std.proofs.lemmas.List.Quantifiers.{all_pairs_push}
 use Rattle.step_kinds.specs.declared.plan.Plan.{Plan}
 use Rattle.step_kinds.specs.declared.steps.Step.{Step}
-use Rattle.explore_model.specs.Schedules.{Runs, answer_after, is_landed, landing_step, lands}
+use Rattle.memory_model.specs.Memory.{memory_of}
+use Rattle.switch_log.specs.Log.{answer_after}
+use Rattle.explore_model.specs.Schedules.{Runs, is_landed, landing_step, lands}
 use Rattle.explore_model.specs.declared.outcome.Landing.{Landing}
 use Rattle.explore_search.specs.Machines.{HaveSameSteps}
 use Rattle.explore_search.specs.Paths.{path, script_of}
@@ -97,7 +99,7 @@ module _ {M : Type 0} (has_made : M → Plan → List Step → Type 0) (plan_hel
 
   -- the run along a path to a state, with a landing after it
   pub run_lands : (state : State M) (landing : Landing) (answers : List (List ℕ)) → done ≤ length (script_of plan) → IsNext plan done landing → HasRun plan done answers state →
-      is_landed (answer_after plan (made_to plan done state) (landing_step landing)) ≡ true →
+      is_landed (answer_after plan (memory_of plan) (made_to plan done state) (landing_step landing)) ≡ true →
       Runs plan (take done (script_of plan)) (state.landings.items ++ landing ∷ []) (path (script_of plan) (state.landings.items ++ landing ∷ []) done) answers
   run_lands state landing answers within next run landed =
       subst (λ (made : List Step). Runs plan (take done (script_of plan)) (state.landings.items ++ landing ∷ []) made answers)
@@ -122,7 +124,7 @@ module _ {M : Type 0} (has_made : M → Plan → List Step → Type 0) (plan_hel
   -- states among which the one after a landing was to be
   pub grown_by_landing : (old new : List (State M)) (from : ℕ) (state : State M) (landing : Landing) (now : List Landing) → from < length old → state ≡ get_or old from state →
       done ≤ length (script_of plan) → IsNext plan done landing → now ≡ state.landings.items ++ landing ∷ [] →
-      is_landed (answer_after plan (made_to plan done state) (landing_step landing)) ≡ true → Joined has_made plan_held key_of plan done now old new →
+      is_landed (answer_after plan (memory_of plan) (made_to plan done state) (landing_step landing)) ≡ true → Joined has_made plan_held key_of plan done now old new →
       HaveGrown has_made plan_held key_of plan done old new
   grown_by_landing old new from state landing now below is within next now_is landed joined =
       grown_by_join now old new joined

@@ -4,7 +4,9 @@ use Rattle.std.specs.List.{HoldsAt}
 use Rattle.std.proofs.lemmas.List.{get_or_read}
 use Rattle.step_kinds.specs.declared.plan.Plan.{Plan}
 use Rattle.step_kinds.specs.declared.steps.Step.{Step}
-use Rattle.explore_model.specs.Schedules.{answer_after, landing_step}
+use Rattle.memory_model.specs.Memory.{memory_of}
+use Rattle.switch_log.specs.Log.{answer_after}
+use Rattle.explore_model.specs.Schedules.{landing_step}
 use Rattle.explore_model.specs.declared.outcome.Landing.{Landing}
 use Rattle.explore_search.specs.Spread.{AreTried, IsSpread, Lands}
 use Rattle.explore_search.specs.States.{HaveGrown, Reaches}
@@ -39,7 +41,7 @@ module _ {M : Type 0} (has_made : M → Plan → List Step → Type 0) (plan_hel
             (ap (λ (landings : List Landing). get_or landings has.0 landing) same ∙ has.2) (led has.0 landing d (omega (arith, has.1))))
         | inr idle ↦ (λ made reaches landed.
             absurd
-            (nothing_not_landed (answer_after plan made (landing_step landing))
+            (nothing_not_landed (answer_after plan (memory_of plan) made (landing_step landing))
             (idle made (subst (λ (state : State M). Reaches has_made plan done state made) (sym (get_or_read old from state below is d)) reaches)) landed))
       ]
 

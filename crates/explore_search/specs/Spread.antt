@@ -5,7 +5,9 @@ use Rattle.step_kinds.specs.declared.names.Side.{Side}
 use Rattle.step_kinds.specs.declared.plan.Plan.{Plan}
 use Rattle.step_kinds.specs.declared.steps.Answer.TheVariants.{Nothing}
 use Rattle.step_kinds.specs.declared.steps.Step.{Step}
-use Rattle.explore_model.specs.Schedules.{IsLanding, answer_after, is_landed, landing_step}
+use Rattle.memory_model.specs.Memory.{memory_of}
+use Rattle.switch_log.specs.Log.{answer_after}
+use Rattle.explore_model.specs.Schedules.{IsLanding, is_landed, landing_step}
 use Rattle.explore_model.specs.declared.outcome.Landing.{Landing}
 use Rattle.explore_search.specs.States.{Covers, Reaches}
 use Rattle.explore_search.specs.declared.states.State.{State}
@@ -23,12 +25,12 @@ module _ {M : Type 0} (has_made : M → Plan → List Step → Type 0) where
   -- Whatever led to a state, after it a landing that is answered `landed` leads to one of these states.
   abbrev pub Lands : Plan → ℕ → List (State M) → State M → Landing → Type 0
   Lands plan done states state landing =
-      (made : List Step) → Reaches has_made plan done state made → is_landed (answer_after plan made (landing_step landing)) ≡ true →
+      (made : List Step) → Reaches has_made plan done state made → is_landed (answer_after plan (memory_of plan) made (landing_step landing)) ≡ true →
       Covers has_made plan done states (made ++ landing_step landing ∷ [])
 
   -- a landing at which nothing lands, whatever led to a state
   abbrev pub IsIdle : Plan → ℕ → State M → Landing → Type 0
-  IsIdle plan done state landing = (made : List Step) → Reaches has_made plan done state made → answer_after plan made (landing_step landing) ≡ Nothing
+  IsIdle plan done state landing = (made : List Step) → Reaches has_made plan done state made → answer_after plan (memory_of plan) made (landing_step landing) ≡ Nothing
 
   -- among these landings are all that may be answered `landed` after a state
   pub record AreTried (plan : Plan) (done : ℕ) (state : State M) (landings : List Landing) : Type 0 where
@@ -40,7 +42,7 @@ module _ {M : Type 0} (has_made : M → Plan → List Step → Type 0) where
     pub each : All (IsNext plan done) old → All (IsNext plan done) new
     pub kept : (landing : Landing) → Contains old landing → Contains new landing
     pub all : (landing : Landing) → IsNext plan done landing → kind landing →
-        Contains new landing ⊎ ((made : List Step) → has_made machine plan made → answer_after plan made (landing_step landing) ≡ Nothing)
+        Contains new landing ⊎ ((made : List Step) → has_made machine plan made → answer_after plan (memory_of plan) made (landing_step landing) ≡ Nothing)
 
   -- after this state all landings lead to these states
   abbrev pub IsSpread : Plan → ℕ → List (State M) → State M → Type 0

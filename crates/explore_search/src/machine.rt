@@ -9,7 +9,9 @@ ghost use Rattle.step_kinds.specs.declared.steps.Step.TheVariants.{Land};
 ghost use Rattle.plan_model.specs.DeclaredPlans.{IsDeclared, IsPairOf};
 ghost use Rattle.plan_model.specs.Switches.{AreSwitches, IsMakeable};
 ghost use Rattle.explore_model.specs.declared.outcome.Landing.{Landing as LandingValue};
-ghost use Rattle.explore_model.specs.Schedules.{answer_after, is_landed, landing_step};
+ghost use Rattle.memory_model.specs.Memory.{memory_of};
+ghost use Rattle.switch_log.specs.Log.{answer_after};
+ghost use Rattle.explore_model.specs.Schedules.{is_landed, landing_step};
 ghost use Rattle.explore_search.specs.Machines.{HaveSameKeys, HaveSameSteps};
 
 use explore_model::Landing;
@@ -48,7 +50,7 @@ pub trait Machine: Drop {
     fn step(&mut self, step: &Step) -> Result<Answer, AllocError>
         requires { IsMakeable (plan_held self.old) step.now }
         ensures answer { (plan : PlanValue) (steps : List StepValue) → has_made self.old plan steps →
-            IfOk result (λ answer. answer ≡ answer_after plan steps step.now) }
+            IfOk result (λ answer. answer ≡ answer_after plan (memory_of plan) steps step.now) }
         ensures made { (plan : PlanValue) (steps : List StepValue) → has_made self.old plan steps →
             OnOk result (has_made self.new plan (steps ++ step.now ∷ [])) }
         ensures rests { (plan : PlanValue) (steps : List StepValue) → has_made self.old plan steps → (landing : LandingValue) → step.now ≡ landing_step landing →
@@ -67,13 +69,13 @@ pub trait Machine: Drop {
         requires plans { plan_held self.now ≡ plan_held other.now }
         requires pair { IsPairOf (plan_held self.now) landing.pair }
         ensures merges { IsTrue result → (plan : PlanValue) (steps : List StepValue) → has_made self.now plan steps → has_made other.now plan (steps ++ landing_step landing ∷ []) }
-        ensures apart { (plan : PlanValue) (steps : List StepValue) → has_made self.now plan steps → is_landed (answer_after plan steps (landing_step landing)) ≡ true → has_made other.now plan (steps ++ landing_step landing ∷ []) → IsTrue result };
+        ensures apart { (plan : PlanValue) (steps : List StepValue) → has_made self.now plan steps → is_landed (answer_after plan (memory_of plan) steps (landing_step landing)) ≡ true → has_made other.now plan (steps ++ landing_step landing ∷ []) → IsTrue result };
 
     /// How many writes a side of a pair has in flight. From this place on no landing finds a write.
     fn in_flight(&self, pair: u32, side: Side) -> usize
         requires { IsPairOf (plan_held self.now) pair }
         ensures { (plan : PlanValue) (steps : List StepValue) (place : ℕ) → has_made self.now plan steps → result ≤ place →
-            answer_after plan steps (Land pair side place) ≡ Nothing };
+            answer_after plan (memory_of plan) steps (Land pair side place) ≡ Nothing };
 
     /// Adds a few bytes of the machine's state, by which a search looks among few. Machines that have made one list of
     /// steps have the same. The only error is out of memory.

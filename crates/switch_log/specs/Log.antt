@@ -2,10 +2,11 @@
 use Rattle.std.specs.Prelude.{ℕ, Bool, true, false, List}
 use Rattle.std.specs.List.{filter}
 use Rattle.step_kinds.specs.declared.plan.Plan.{Plan}
+use Rattle.step_kinds.specs.declared.steps.Answer.{Answer}
 use Rattle.step_kinds.specs.declared.steps.Step.{Step}
 use Rattle.step_kinds.specs.declared.steps.Step.TheVariants.{Relay, Xnext}
 use Rattle.ledger_model.specs.Log.{Answered, Memories}
-use Rattle.switch_log.specs.Network.{Network, items_from, network_from, new_network}
+use Rattle.switch_log.specs.Network.{Network, items_from, network_from, new_network, next_item}
 use Rattle.switch_log.specs.Origins.{Carried, bytes_kept, origins_kept}
 
 -- The log of a list of steps has one item for each. An `xnext` at whose port a frame waits stands in it as the `begin` that it is.
@@ -16,7 +17,11 @@ switch_log plan memories steps = items_from bytes_kept plan memories (new_networ
 abbrev pub network_of : Plan → Memories → List Step → Network (List ℕ)
 network_of plan memories steps = network_from bytes_kept plan memories (new_network plan) steps
 
--- the same, where each frame in a switch has its origin
+-- what the log answers to a step after these
+unfoldable pub answer_after : Plan → Memories → List Step → Step → Answer
+answer_after plan memories steps step = (next_item bytes_kept plan memories (network_of plan memories steps) step).answer
+
+-- the same network, where each frame in a switch has its origin
 abbrev pub traced_network : Plan → Memories → List Step → Network Carried
 traced_network plan memories steps = network_from origins_kept plan memories (new_network plan) steps
 

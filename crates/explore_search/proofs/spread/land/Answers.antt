@@ -4,7 +4,9 @@ use Rattle.std.proofs.lemmas.List.Elements.{All-push}
 use Rattle.std.specs.List.{All}
 use Rattle.step_kinds.specs.declared.plan.Line.{Line}
 use Rattle.step_kinds.specs.declared.steps.Step.{Step}
-use Rattle.explore_model.specs.Schedules.{answer_after, is_landed}
+use Rattle.memory_model.specs.Memory.{memory_of}
+use Rattle.switch_log.specs.Log.{answer_after}
+use Rattle.explore_model.specs.Schedules.{is_landed}
 use Rattle.explore_model.specs.declared.outcome.Landing.{Landing}
 use Rattle.explore_search.specs.Paths.{IsLandingBy, path, script_of}
 use Rattle.explore_search.specs.Spread.{Lands}
@@ -31,7 +33,7 @@ returns-in_default g c =
           (get_or_read c.args.states.now c.args.from state c.requires.from here d)
           (λ made reaches landed.
           let has = g.met.M.Machine.same_steps plan (made_to plan c.args.done state) made reaches.0 c.in_ok-machine.machine reaches.1 c.in_ok-machine.ensures.made reaches.2 in
-          absurd (other (ap is_landed (c.in_ok-answer.ensures.answer plan made has ∙ ap (λ (step : Step). answer_after plan made step) c.as_step.ensures) ∙ landed)));
+          absurd (other (ap is_landed (c.in_ok-answer.ensures.answer plan made has ∙ ap (λ (step : Step). answer_after plan (memory_of plan) made step) c.as_step.ensures) ∙ landed)));
       spare = λ d.
           subst (λ (state : State g.row.M.Denot). IsMachineAt g.M.Machine.has_made g.M.Machine.plan_held plan (made_to plan c.args.done state) c.step.new.self)
           (get_or_read c.args.states.now c.args.from state c.requires.from here d)
@@ -86,7 +88,7 @@ returns-clause-grown g c =
     let size = length-map plan.steps (λ (line : Line). line.step) in
     grown_by_landing g.M.Machine.has_made g.M.Machine.plan_held g.M.Machine.key_of plan c.args.done c.args.states.now c.join.new.states c.args.from state c.args.landing c.in_ok-landings.landings.items
     c.requires.from again (omega arith) c.requires.landing (c.in_ok-landings.ensures ∙ ap (λ (landings : List Landing). landings ++ c.args.landing ∷ []) copied)
-    (ap is_landed (ap (λ (step : Step). answer_after plan (made_to plan c.args.done state) step) (sym c.as_step.ensures) ∙ sym (c.in_ok-answer.ensures.answer plan (made_to plan c.args.done state) at))
+    (ap is_landed (ap (λ (step : Step). answer_after plan (memory_of plan) (made_to plan c.args.done state) step) (sym c.as_step.ensures) ∙ sym (c.in_ok-answer.ensures.answer plan (made_to plan c.args.done state) at))
     ∙ landed_is_landed c.in_ok-answer.answer c.in-Landed.label c.in-Landed.is)
     c.in_ok-join.ensures
 

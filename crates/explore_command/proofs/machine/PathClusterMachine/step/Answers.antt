@@ -6,17 +6,20 @@ use Rattle.step_kinds.specs.declared.steps.Answer.{Answer}
 use Rattle.step_kinds.specs.declared.steps.Answer.TheVariants.{Landed}
 use Rattle.step_kinds.specs.declared.steps.Label.{Label}
 use Rattle.step_kinds.specs.declared.steps.Step.{Step}
+use Rattle.memory_model.specs.Memory.{memory_of}
+use Rattle.switch_log.specs.Log.{answer_after}
+use Rattle.cluster_core.proofs.Facade.{one_answer}
 use Rattle.cluster_core.specs.Cluster.{ClusterState}
 use Rattle.cluster_core.specs.LogClauses.{HasMade, IsAnswered}
-use Rattle.explore_model.specs.Schedules.{answer_after, is_landed}
-use Rattle.explore_command.proofs.AnswersOfLogs.{answered, not_landed}
+use Rattle.explore_model.specs.Schedules.{is_landed}
+use Rattle.explore_command.proofs.LandedLabels.{not_landed}
 use Rattle.explore_command.proofs.machine.PathClusterMachine.step.Goals as goal
 
 pub returns-clause-answer : goal.returns-clause-answer
 returns-clause-answer c = λ (plan : Plan) (steps : List Step) made.
     let at = subst (λ (cluster : ClusterState). HasMade plan steps cluster) (sym c.self.view_is) made in
-    IfOk-weaker c.step.result (IsAnswered plan steps c.args.step.now) (λ (answer : Answer). answer ≡ answer_after plan steps c.args.step.now)
-    (λ (answer : Answer) (is : IsAnswered plan steps c.args.step.now answer). answered plan steps c.args.step.now answer is) (c.step.ensures.answered plan steps at)
+    IfOk-weaker c.step.result (IsAnswered plan steps c.args.step.now) (λ (answer : Answer). answer ≡ answer_after plan (memory_of plan) steps c.args.step.now)
+    (λ (answer : Answer) (is : IsAnswered plan steps c.args.step.now answer). one_answer plan steps c.args.step.now answer is) (c.step.ensures.answered plan steps at)
 
 pub returns-clause-rests : goal.returns-clause-rests
 returns-clause-rests c = λ (plan : Plan) (steps : List Step) made landing is.
