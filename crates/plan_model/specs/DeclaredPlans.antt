@@ -1,6 +1,6 @@
 -- What a script can declare, and the steps that such a plan permits.
 use Rattle.std.specs.Prelude.{◌≡◌, ℕ, ◌+◌, ◌*◌, ◌^◌, ◌<◌, ◌≤◌, ◌⊎◌, true, List, length, min, slice_index}
-use Rattle.step_kinds.specs.Limits.{most_pairs, most_devices, most_frame_bytes, IsQueues, IsWindows, IsSize, IsMtu, IsClass, most_poke_bytes}
+use Rattle.step_kinds.specs.Limits.{most_pairs, most_devices, most_frame_bytes, most_poke_bytes, most_threshold, IsQueues, IsWindows, IsSize, IsMtu, IsClass}
 use Rattle.step_kinds.specs.Sides.{other_side}
 use Rattle.step_kinds.specs.declared.names.Side.{Side}
 use Rattle.step_kinds.specs.declared.plan.SidePlan.{SidePlan}
@@ -59,7 +59,7 @@ pub record IsQueueOf (plan : Plan) (pair : ℕ) (side : Side) (queue : ℕ) : Ty
 pub record IsDevice (plan : Plan) (dev : DevPlan) : Type 0 where
   pub queue : IsQueueOf plan dev.pair dev.side dev.queue
   pub address : length dev.address ≡ 6
-  pub thresholds : (dev.stop ≤ dev.start) × (dev.start ≤ 65535)
+  pub thresholds : (dev.stop ≤ dev.start) × (dev.start ≤ most_threshold)
 
 -- two devices on one queue of one side
 abbrev pub SameQueue : DevPlan → DevPlan → Type 0

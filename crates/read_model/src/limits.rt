@@ -3,9 +3,6 @@
 /// The bytes of a side's memory.
 pub const MEMORY_BYTES: u64 = 4096;
 
-/// The most bytes of a write: what one posted write of this project carries.
-pub const MOST_WRITE_BYTES: usize = 128;
-
 /// The most bytes that a read asks for.
 pub const MOST_READ_BYTES: u32 = 512;
 

@@ -7,10 +7,10 @@ ghost use Rattle.read_model.specs.InFlight.{kind_of, may_land, parts_from};
 ghost use Rattle.read_path.specs.Flights.{flying_of, nothing_flying};
 
 use order_rules::{COMPLETION, READ_REQUEST, RELAXED, STRICT, full_table};
-use read_model::limits::MOST_WRITE_BYTES;
 use std::alloc::{AllocError, Global};
 use std::collections::VecDeque;
 use std::marker::Model;
+use step_kinds::limits::MOST_WRITE_BYTES;
 use step_kinds::{Frame, InPlace, Items};
 
 /// What travels from a side to its peer.

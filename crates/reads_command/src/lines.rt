@@ -8,12 +8,12 @@ ghost use Rattle.read_model.specs.Lines as rules;
 ghost use Rattle.reads_command.specs.Steps.{Fits, FitsIfThere};
 
 use read_model::PathStep;
-use read_model::limits::{MEMORY_BYTES, MOST_READ_BYTES, MOST_SHOW_BYTES, MOST_WRITE_BYTES};
+use read_model::limits::{MEMORY_BYTES, MOST_READ_BYTES, MOST_SHOW_BYTES};
 use script_text::lines::{is_skipped, read_words};
 use script_words::words::{read_bytes, read_number, read_number_between, read_side};
 use script_words::{Cause, ReadError};
 use std::alloc::Global;
-use step_kinds::limits::MOST_STEPS;
+use step_kinds::limits::{MOST_STEPS, MOST_WRITE_BYTES};
 
 /// The order that a word spells: whether a write is relaxed.
 fn read_order(word: &[u8]) -> Option<bool>

@@ -1,7 +1,7 @@
 -- What holds of the lines so far, and what a line gives beside them.
 use Rattle.std.specs.Prelude.{◌≡◌, ℕ, ◌+◌, ◌*◌, ◌<◌, ◌≤◌, false, length, map, sum, count_by}
 use Rattle.std.specs.List.{All}
-use Rattle.step_kinds.specs.Limits.{most_hosts, most_pairs, most_devices, most_switches, most_steps, most_traffic_frames, most_traffic_bytes, most_breaks, IsClass}
+use Rattle.step_kinds.specs.Limits.{most_hosts, most_pairs, most_devices, most_switches, most_steps, most_frame_bytes, most_traffic_frames, most_traffic_bytes, most_breaks, IsClass}
 use Rattle.plan_model.specs.DeclaredPlans.{IsPair, IsDevice, IsQueueOf}
 use Rattle.plan_model.specs.Switches.{IsSwitch}
 use Rattle.plan_model.specs.TrafficPlans.{frames_in, bytes_in, is_break_of}
@@ -36,7 +36,7 @@ Suits before TrafficBegins = Unit {0}
 Suits before (Frame lane frame) =
     (sum (map frames_in before.plan.traffic) + 1 ≤ most_traffic_frames) × (sum (map bytes_in before.plan.traffic) + length frame ≤ most_traffic_bytes)
 Suits before (Flood lane count len) =
-    (0 < count → len ≤ 65536)
+    (0 < count → len ≤ most_frame_bytes)
     × (sum (map frames_in before.plan.traffic) + count ≤ most_traffic_frames)
     × (sum (map bytes_in before.plan.traffic) + count * len ≤ most_traffic_bytes)
 Suits before (Break pair) = (pair < 16) × (count_by (is_break_of pair) before.plan.traffic < most_breaks)

@@ -1,7 +1,7 @@
 //! The traffic that the lines so far give, with its counters.
 
-ghost use Rattle.std.specs.Prelude.{◌≡◌, ◌∷◌, [], ◌++◌, ◌+◌, ◌*◌, ◌%◌, ◌^◌, ◌<◌, ◌≤◌, ◌&&◌, length, map, sum, count_by, nat_le, IfOk, OnOk};
-ghost use Rattle.step_kinds.specs.Limits.{most_traffic_frames, most_traffic_bytes, most_breaks};
+ghost use Rattle.std.specs.Prelude.{◌≡◌, ◌∷◌, [], ◌++◌, ◌+◌, ◌*◌, ◌%◌, ◌<◌, ◌≤◌, ◌&&◌, length, map, sum, count_by, nat_le, IfOk, OnOk};
+ghost use Rattle.step_kinds.specs.Limits.{most_frame_bytes, most_traffic_frames, most_traffic_bytes, most_breaks};
 ghost use Rattle.step_kinds.specs.declared.plan.Traffic.TheVariants.{Send, Break};
 ghost use Rattle.script_words.specs.Compact.{flood_of};
 ghost use Rattle.plan_model.specs.TrafficPlans.{frames_in, bytes_in, is_break_of};
@@ -36,12 +36,10 @@ impl TrafficList {
 
     /// Whether so many frames of so many bytes in all stay within the limits.
     pub fn has_room(&self, frames: u64, bytes: u64) -> bool
-        requires frames { frames ≤ 2 ^ 32 }
-        requires bytes { bytes ≤ 2 ^ 62 }
         ensures { result ≡ (nat_le (sum (map frames_in self.now) + frames) most_traffic_frames && nat_le (sum (map bytes_in self.now) + bytes) most_traffic_bytes) }
     {
-        self.frames + frames <= MOST_TRAFFIC_FRAMES as u64
-            && self.bytes + bytes <= MOST_TRAFFIC_BYTES
+        frames <= MOST_TRAFFIC_FRAMES as u64 - self.frames
+            && bytes <= MOST_TRAFFIC_BYTES - self.bytes
     }
 
     /// How many link losses of the pair there are.
@@ -86,7 +84,7 @@ impl TrafficList {
         count: u32,
         len: u32,
     ) -> Result<(), AllocError>
-        requires len { 0 < count → len ≤ 65536 }
+        requires len { 0 < count → len ≤ most_frame_bytes }
         requires frames { sum (map frames_in self.old) + count ≤ most_traffic_frames }
         requires bytes { sum (map bytes_in self.old) + count * len ≤ most_traffic_bytes }
         ensures { OnOk result (self.new ≡ self.old ++ flood_of lane count len) }
@@ -121,8 +119,8 @@ impl Model for TrafficList {
 
 /// Frame `i` of a flood.
 fn flood_frame(alloc: Global, len: u32, i: u32) -> Result<Frame, AllocError>
-    requires len { len ≤ 65536 }
-    requires i { i ≤ 100000 }
+    requires len { len ≤ most_frame_bytes }
+    requires i { i ≤ most_traffic_frames }
     ensures { IfOk result (λ frame. frame ≡ flood_frame len i) }
 {
     let mut bytes = Vec::new(alloc);

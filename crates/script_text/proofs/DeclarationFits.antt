@@ -3,12 +3,12 @@ use Rattle.std.proofs.Common.{◌≡◌, ℕ, ◌≤◌, Bool, true, false, not,
 use Rattle.std.proofs.lemmas.Bool.{and_parts, leb-true, ltb-false, not-false}
 use Rattle.std.specs.List.{AllPairs, list_any, list_all}
 use Rattle.std.specs.Str.{bytes_eq}
-use Rattle.step_kinds.specs.Limits.{most_hosts, most_pairs, most_devices, most_switches, least_ports, most_ports, IsPorts}
+use Rattle.step_kinds.specs.Limits.{most_hosts, most_pairs, most_devices, most_switches, most_threshold, least_ports, most_ports, IsPorts}
 use Rattle.plan_model.specs.Plans.{ports_in}
 use Rattle.pair_settings.specs.Settings.{same_setting, range_of, in_range, goes_together, pair_with}
 use Rattle.pair_settings.specs.declared.settings.Setting.{Setting}
 use Rattle.script_words.specs.Before.{Before, Given, Host, APair, ADevice, AClass, ASwitch, StepsBegin, TrafficBegins, pair_names, dev_names, switch_names}
-use Rattle.script_words.specs.Declarations.{host_line, pair_line, dev_line, class_line, switch_line, host_words, pair_words, dev_words, class_words, switch_words, is_ports, lone_word, declaration_line, host_word, most_threshold, threshold_of, threshold_word, sits_on, is_queue}
+use Rattle.script_words.specs.Declarations.{host_line, pair_line, dev_line, class_line, switch_line, host_words, pair_words, dev_words, class_words, switch_words, is_ports, lone_word, declaration_line, host_word, threshold_of, threshold_word, sits_on, is_queue}
 use Rattle.script_words.specs.Ports.{on_one_host}
 use Rattle.script_words.specs.Settings.{settings_from, with_setting, setting_word, option_place}
 use Rattle.script_words.specs.Tests.{found_or, fault_at, unknown_line, whole, at}
@@ -43,12 +43,12 @@ settings_in_range : (settings : List Setting) (words : List (List ℕ)) → list
 settings_in_range settings [] all = gives_ok _ settings all
 settings_in_range settings (word ∷ words) all = gives_then _ _ _ (setting_in_range settings word all) (λ more in_it. settings_in_range more words in_it)
 
-small_threshold : (digits : List ℕ) → Gives (λ k. k ≤ 65535) (threshold_of digits)
+small_threshold : (digits : List ℕ) → Gives (λ k. k ≤ most_threshold) (threshold_of digits)
 small_threshold digits =
     gives_then _ _ _ (gives_any (number_word digits)) (λ number _.
-    gives_then _ _ _ (gives_passed (nat_lt 65535 number) BadGeometry) (λ _ e. gives_ok _ number (ltb-false 65535 number e)))
+    gives_then _ _ _ (gives_passed (nat_lt most_threshold number) BadGeometry) (λ _ e. gives_ok _ number (ltb-false most_threshold number e)))
 
-threshold_within : (n : ℕ) (key word : List ℕ) → Gives (λ k. k ≤ 65535) (threshold_word n key word)
+threshold_within : (n : ℕ) (key word : List ℕ) → Gives (λ k. k ≤ most_threshold) (threshold_word n key word)
 threshold_within n key word =
     gives_then _ _ _ (gives_any (at n (found_or (behind key word) UnknownWord))) (λ digits _. gives_within _ n 0 most_threshold _ (small_threshold digits))
 

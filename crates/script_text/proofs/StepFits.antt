@@ -4,7 +4,7 @@ use Rattle.std.proofs.lemmas.Bool.{ltb-false, ltb-true, not-false, and_parts, an
 use Rattle.std.proofs.lemmas.List.Elements.{All-cons, All-nil, All-append, All-replicate, All-weaker}
 use Rattle.std.specs.List.{All}
 use Rattle.std.specs.Str.{bytes_eq}
-use Rattle.step_kinds.specs.Limits.{most_frame_bytes, most_steps}
+use Rattle.step_kinds.specs.Limits.{most_frame_bytes, most_poke_bytes, most_steps}
 use Rattle.step_kinds.specs.declared.names.Side.{Side}
 use Rattle.step_kinds.specs.declared.plan.PairPlan.{PairPlan}
 use Rattle.step_kinds.specs.declared.plan.DevPlan.{DevPlan}
@@ -173,7 +173,7 @@ module _ (before : Before) (part : before.part ≡ Declarations → ⊥) (device
       gives_then _ _ _ (gives_at _ 6 _ (bytes_spelled bytes_text some)) (λ bytes filled.
       gives_then _ _ _ (gives_passed (nat_lt (reach (pair_plan before.plan name.pair) name.side) (offset + length bytes)) (fault_at 6 BadNumber)) (λ _ within.
       gives_then _ _ _ (gives_passed (not (pair_plan before.plan name.pair).raw) (whole BadPair)) (λ _ raw.
-      gives_then _ _ _ (gives_passed (nat_lt 128 (length bytes)) (whole TooMany)) (λ _ few.
+      gives_then _ _ _ (gives_passed (nat_lt most_poke_bytes (length bytes)) (whole TooMany)) (λ _ few.
       let both = and_parts (nat_lt window (pair_plan before.plan name.pair).a.windows) (nat_lt window (pair_plan before.plan name.pair).b.windows)
       (not-false (nat_lt window (pair_plan before.plan name.pair).a.windows && nat_lt window (pair_plan before.plan name.pair).b.windows) known) in
       steps_fit (Poke name.pair name.side window offset bytes ∷ []) (one before.plan (Poke name.pair name.side window offset bytes) (
@@ -182,7 +182,7 @@ module _ (before : Before) (part : before.part ≡ Declarations → ⊥) (device
           raw = not-false (pair_plan before.plan name.pair).raw raw;
           windows = (ltb-true window (pair_plan before.plan name.pair).a.windows both.0, ltb-true window (pair_plan before.plan name.pair).b.windows both.1);
           some = filled;
-          few = ltb-false 128 (length bytes) few;
+          few = ltb-false most_poke_bytes (length bytes) few;
           within = ltb-false (reach (pair_plan before.plan name.pair) name.side) (offset + length bytes) within;
         },
       ))))))))))

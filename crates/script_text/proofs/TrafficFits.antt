@@ -5,7 +5,7 @@ use Rattle.std.proofs.lemmas.List.Elements.{All-cons, All-nil, All-map}
 use Rattle.std.proofs.lemmas.List.Sums.{sum_by-cons}
 use Rattle.std.specs.List.{All}
 use Rattle.std.specs.Str.{bytes_eq}
-use Rattle.step_kinds.specs.Limits.{most_traffic_frames, most_traffic_bytes, most_breaks, most_traffic_entries}
+use Rattle.step_kinds.specs.Limits.{most_frame_bytes, most_traffic_frames, most_traffic_bytes, most_breaks, most_traffic_entries}
 use Rattle.step_kinds.specs.declared.names.LaneName.{LaneName}
 use Rattle.step_kinds.specs.declared.names.Side.{Side}
 use Rattle.step_kinds.specs.declared.names.Side.TheVariants.{A, B}
@@ -109,8 +109,8 @@ module _ (before : Before) (part : before.part ≡ Declarations → ⊥) (few : 
   flood_fits : (pair_text side_text queue_text count_text len_text : List ℕ) → Gives (Fits before) (flood_line before pair_text side_text queue_text count_text len_text)
   flood_fits pair_text side_text queue_text count_text len_text =
       gives_then _ _ _ (queue_declared before 2 pair_text side_text queue_text) (λ name queue.
-      gives_then _ _ _ (number_ranged 5 1 100000 count_text) (λ count _.
-      gives_then _ _ _ (number_ranged 6 1 65536 len_text) (λ len range.
+      gives_then _ _ _ (number_ranged 5 1 most_traffic_frames count_text) (λ count _.
+      gives_then _ _ _ (number_ranged 6 1 most_frame_bytes len_text) (λ len range.
       within_fits (lane_of name) len
       (map (λ i. Send (lane_of name) (flood_frame len i)) (count_from 0 count)) queue.declared queue.among
       (λ lane short. All-map (IsTraffic before.plan) (λ i. Send (lane_of name) (flood_frame len i)) (count_from 0 count)

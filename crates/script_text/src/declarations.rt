@@ -19,7 +19,7 @@ use script_words::{
     Cause, Given, LineError, LineFault, PairHosts, Range, at, unknown_line, within,
 };
 use std::alloc::{AllocError, Global};
-use step_kinds::limits::{MOST_DEVICES, MOST_HOSTS, MOST_PAIRS};
+use step_kinds::limits::{MOST_DEVICES, MOST_HOSTS, MOST_PAIRS, MOST_THRESHOLD};
 use step_kinds::{DevPlan, PairPlan};
 
 /// `host NAME`
@@ -70,9 +70,6 @@ fn pair_line(
         hosts: PairHosts { a, b },
     })
 }
-
-/// The largest threshold of a device.
-const MOST_THRESHOLD: u32 = 65535;
 
 /// A device's threshold.
 fn threshold_of(digits: &[u8]) -> Result<u32, Cause>

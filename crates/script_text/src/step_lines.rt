@@ -2,6 +2,7 @@
 #![tactic(auto, unfolding(script_words::specs::Tests::and_then))]
 
 ghost use Rattle.std.specs.Prelude.{◌≡◌, ◌<◌, ◌≤◌, ◌+◌, ◌∷◌, [], map, length};
+ghost use Rattle.step_kinds.specs.Limits.{most_frame_bytes};
 ghost use Rattle.plan_model.specs.DeclaredPlans.{IsPair};
 ghost use Rattle.plan_model.specs.Ethernet.{ethernet_header};
 ghost use Rattle.plan_model.specs.Plans.{side_plan, pair_plan};
@@ -23,7 +24,7 @@ use script_words::step_words::{
 use script_words::words::{read_array, read_bytes_at, read_kind, read_number, read_number_in};
 use script_words::{Cause, Given, LineError, QueueName, SideName, at, unknown_line};
 use std::alloc::Global;
-use step_kinds::limits::{MOST_FRAME_BYTES, MOST_STEPS};
+use step_kinds::limits::{MOST_FRAME_BYTES, MOST_POKE_BYTES, MOST_STEPS};
 use step_kinds::{Frame, PairPlan, Side, Step};
 use step_list::{Macro, Repeated};
 
@@ -254,7 +255,7 @@ fn poke_line(
     if !plan.raw {
         return Err(LineError::Fault(Cause::BadPair.of_line()));
     }
-    if bytes.len() > 128 {
+    if bytes.len() > MOST_POKE_BYTES {
         return Err(LineError::Fault(Cause::TooMany.of_line()));
     }
     let bytes = Frame::of_vec(bytes.into_vec());
@@ -326,7 +327,7 @@ fn ethernet_steps(
     payload: Frame,
 ) -> Macro
     requires declared { dev < length before.now.plan.devs }
-    requires fits { length payload + ethernet_header ≤ 65536 }
+    requires fits { length payload + ethernet_header ≤ most_frame_bytes }
     ensures { steps_of result ≡ rules.ethernet_steps before.now.plan is_macro dev dst kind payload }
 {
     let device = before.device(dev);

@@ -2,6 +2,7 @@
 #![tactic(auto, unfolding(script_words::specs::Tests::and_then))]
 
 ghost use Rattle.std.specs.Prelude.{◌≡◌, ◌<◌, ◌≤◌, ◌*◌, length, map, sum, List, Ok, OnOk};
+ghost use Rattle.step_kinds.specs.Limits.{most_frame_bytes, most_traffic_frames};
 ghost use Rattle.step_kinds.specs.declared.plan.Traffic.{Traffic};
 ghost use Rattle.plan_model.specs.Plans.{side_plan, pair_plan};
 ghost use Rattle.plan_model.specs.TrafficPlans.{frames_in, bytes_in};
@@ -18,7 +19,9 @@ use script_plan::Reader;
 use script_words::words::{read_bytes_at, read_number_in};
 use script_words::{Cause, Given, LineError, LineFault, QueueName, at, unknown_line};
 use std::alloc::Global;
-use step_kinds::limits::{MOST_BREAKS, MOST_TRAFFIC_ENTRIES};
+use step_kinds::limits::{
+    MOST_BREAKS, MOST_FRAME_BYTES, MOST_TRAFFIC_ENTRIES, MOST_TRAFFIC_FRAMES,
+};
 use step_kinds::{Frame, LaneName, PairPlan};
 
 /// Whether a pair may have traffic.
@@ -32,9 +35,9 @@ fn may_have_traffic(pair: &PairPlan) -> bool
 fn test_lane(before: &Reader, lane: LaneName, len: u64, count: u64) -> Result<(), LineFault>
     requires declared { lane.pair < length before.now.plan.pairs }
     requires among { lane.queue < (side_plan (pair_plan before.now.plan lane.pair) lane.from).queues }
-    requires count { count ≤ 100000 }
+    requires count { count ≤ most_traffic_frames }
     ensures value { (more : List Traffic) → sum (map frames_in more) ≡ count → sum (map bytes_in more) ≡ count * len → result_map (λ _. MoreTraffic more) result ≡ rules.traffic_within before.now lane len more }
-    ensures short { OnOk result (len ≤ 65536) }
+    ensures short { OnOk result (len ≤ most_frame_bytes) }
 {
     let pair = before.pair(lane.pair);
     let ring = sending_ring(pair, lane.from, lane.queue);
@@ -98,8 +101,8 @@ fn flood_line(
 {
     let name = read_queue_name(before, 2, on)?;
     let lane = lane_of(name);
-    let count = read_number_in(5, 1, 100_000, count)?;
-    let len = read_number_in(6, 1, 65_536, len)?;
+    let count = read_number_in(5, 1, MOST_TRAFFIC_FRAMES as u32, count)?;
+    let len = read_number_in(6, 1, MOST_FRAME_BYTES, len)?;
     test_lane(before, lane, len as u64, count as u64)?;
     Ok(Given::Flood { lane, count, len })
 }

@@ -4,7 +4,7 @@ use Rattle.std.specs.Prelude.{ℕ, ◌==◌, Bool, true, false, if◌then◌else
 use Rattle.std.specs.List.{list_any}
 use Rattle.std.specs.Str.{bytes_eq}
 use Rattle.step_kinds.specs.Sides.{same_side}
-use Rattle.step_kinds.specs.Limits.{most_hosts, most_pairs, most_devices, most_switches, least_ports, most_ports}
+use Rattle.step_kinds.specs.Limits.{most_hosts, most_pairs, most_devices, most_switches, most_threshold, least_ports, most_ports}
 use Rattle.step_kinds.specs.declared.names.Side.{Side}
 use Rattle.step_kinds.specs.declared.names.Side.TheVariants.{A, B}
 use Rattle.step_kinds.specs.declared.plan.DevPlan.{DevPlan}
@@ -51,9 +51,6 @@ pair_line before word host_a host_b options = do
   _ ← fault_if (not (goes_together (pair_with name settings))) (whole BadGeometry)
   _ ← fault_if (not (nat_lt (length before.plan.pairs) most_pairs)) (whole TooMany)
   Ok (APair (pair_with name settings) (record { a = a; b = b }))
-
-abbrev pub most_threshold : ℕ
-most_threshold = 65535
 
 -- a device's threshold
 abbrev pub threshold_of : List ℕ → Result ℕ Cause

@@ -1,7 +1,7 @@
 -- Lines of steps and macros, grouped by their arguments: P is a pair, S a side, Q a queue of that side. The first word is word 1.
 use Rattle.std.specs.Prelude.{ℕ, ◌+◌, ◌*◌, Bool, true, false, not, ◌&&◌, Option, Some, None, Result, Ok, Err, List, [], ◌∷◌, length, codes, min, nat_lt, if◌then◌else◌}
 use Rattle.std.specs.Str.{bytes_eq}
-use Rattle.step_kinds.specs.Limits.{most_frame_bytes, most_steps}
+use Rattle.step_kinds.specs.Limits.{most_frame_bytes, most_poke_bytes, most_steps}
 use Rattle.step_kinds.specs.Sides.{other_side}
 use Rattle.step_kinds.specs.declared.names.Side.{Side}
 use Rattle.step_kinds.specs.declared.plan.PairPlan.{PairPlan}
@@ -108,7 +108,7 @@ largest_number = 4294967295
 abbrev pub numbered_steps : List ℕ → Option NumberedSteps
 numbered_steps word =
     if bytes_eq word (codes "land") then Some (record { least = 0; most = largest_number; steps = λ pair side place. Land pair side place ∷ [] })
-    else if bytes_eq word (codes "landall") then Some (record { least = 1; most = 1000000; steps = land_all })
+    else if bytes_eq word (codes "landall") then Some (record { least = 1; most = most_steps; steps = land_all })
     else if bytes_eq word (codes "mask") then Some (record { least = 0; most = largest_number; steps = λ pair side bits. Mask pair side bits ∷ [] })
     else if bytes_eq word (codes "unmask") then Some (record { least = 0; most = largest_number; steps = λ pair side bits. Unmask pair side bits ∷ [] })
     else if bytes_eq word (codes "showq") then Some (record { least = 0; most = largest_number; steps = λ pair side place. ShowQueue pair side place ∷ [] })
@@ -143,8 +143,8 @@ show_memory_line before pair_text side_text start_text len_text = do
 abbrev pub reach : PairPlan → Side → ℕ
 reach pair side = min (side_plan pair side).size (side_plan pair (other_side side)).cap
 
--- `poke P S WINDOW OFFSET HEX`: in a window that both sides have, within what reaches the peer's memory, on a raw pair, at most 128
--- bytes
+-- `poke P S WINDOW OFFSET HEX`: in a window that both sides have, within what reaches the peer's memory, on a raw pair, and no more
+-- bytes than a poke may write
 abbrev pub poke_line : Before → List ℕ → List ℕ → List ℕ → List ℕ → List ℕ → Result Given LineFault
 poke_line before pair_text side_text window_text offset_text bytes_text = do
   name ← named_side before 2 pair_text side_text
@@ -154,7 +154,7 @@ poke_line before pair_text side_text window_text offset_text bytes_text = do
   bytes ← at 6 (hex_word bytes_text)
   _ ← fault_if (nat_lt (reach (pair_plan before.plan name.pair) name.side) (offset + length bytes)) (fault_at 6 BadNumber)
   _ ← fault_if (not (pair_plan before.plan name.pair).raw) (whole BadPair)
-  _ ← fault_if (nat_lt 128 (length bytes)) (whole TooMany)
+  _ ← fault_if (nat_lt most_poke_bytes (length bytes)) (whole TooMany)
   steps_within before (Poke name.pair name.side window offset bytes ∷ [])
 
 -- `wake DEV`

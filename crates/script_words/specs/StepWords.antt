@@ -1,5 +1,6 @@
 -- The steps of each first word.
 use Rattle.std.specs.Prelude.{ℕ, List, [], ◌∷◌}
+use Rattle.step_kinds.specs.Limits.{most_steps}
 use Rattle.step_kinds.specs.declared.names.Side.{Side}
 use Rattle.step_kinds.specs.declared.plan.PairPlan.{PairPlan}
 use Rattle.step_kinds.specs.declared.steps.Step.{Step}
@@ -53,7 +54,7 @@ queue_steps_of Recv = λ pair side queue. receive pair side queue 1
 
 abbrev pub numbered_of : NumberWord → NumberedSteps
 numbered_of Land = record { least = 0; most = largest_number; steps = λ pair side place. step.Land pair side place ∷ [] }
-numbered_of LandAll = record { least = 1; most = 1000000; steps = land_all }
+numbered_of LandAll = record { least = 1; most = most_steps; steps = land_all }
 numbered_of Mask = record { least = 0; most = largest_number; steps = λ pair side bits. step.Mask pair side bits ∷ [] }
 numbered_of Unmask = record { least = 0; most = largest_number; steps = λ pair side bits. step.Unmask pair side bits ∷ [] }
 numbered_of ShowQueue = record { least = 0; most = largest_number; steps = λ pair side place. step.ShowQueue pair side place ∷ [] }

@@ -1,7 +1,7 @@
 -- Lines of traffic: frames that a threaded run sends, and losses of a link beside them.
 use Rattle.std.specs.Prelude.{ℕ, ◌+◌, ◌%◌, Bool, not, ◌&&◌, ◌||◌, Result, Ok, Err, List, [], ◌∷◌, length, codes, count_by, map, sum, nat_le, nat_lt, if◌then◌else◌}
 use Rattle.std.specs.Str.{bytes_eq}
-use Rattle.step_kinds.specs.Limits.{most_traffic_frames, most_traffic_bytes, most_breaks, most_traffic_entries}
+use Rattle.step_kinds.specs.Limits.{most_frame_bytes, most_traffic_frames, most_traffic_bytes, most_breaks, most_traffic_entries}
 use Rattle.step_kinds.specs.declared.names.LaneName.{LaneName}
 use Rattle.step_kinds.specs.declared.plan.PairPlan.{PairPlan}
 use Rattle.step_kinds.specs.declared.plan.Traffic.{Traffic}
@@ -56,8 +56,8 @@ flood_frame len i = map (λ j. (i + j) % 256) (count_from 0 len)
 abbrev pub flood_line : Before → List ℕ → List ℕ → List ℕ → List ℕ → List ℕ → Result Given LineFault
 flood_line before pair_text side_text queue_text count_text len_text = do
   name ← named_queue before 2 pair_text side_text queue_text
-  count ← number_in 5 1 100000 count_text
-  len ← number_in 6 1 65536 len_text
+  count ← number_in 5 1 most_traffic_frames count_text
+  len ← number_in 6 1 most_frame_bytes len_text
   traffic_within before (lane_of name) len
       (map (λ i. Send (lane_of name) (flood_frame len i)) (count_from 0 count))
 

@@ -6,6 +6,7 @@ ghost use Rattle.step_list.specs.Compact.{step_again, steps_of};
 ghost use Rattle.script_words.specs.StepLines.{pair_step, side_steps, queue_steps, numbered_steps, frame_steps};
 ghost use Rattle.script_words.specs.StepWords.{pair_step_of, side_steps_of, side_steps_with, queue_steps_of, numbered_of, frame_steps_of};
 
+use step_kinds::limits::MOST_STEPS;
 use step_kinds::{Side, Step};
 use step_list::{Macro, Repeated};
 
@@ -205,7 +206,7 @@ impl NumberWord {
         ensures { result ≡ (numbered_of self).most }
     {
         match self {
-            NumberWord::LandAll => 1_000_000,
+            NumberWord::LandAll => MOST_STEPS as u32,
             NumberWord::ShowPad => 15,
             _ => u32::MAX,
         }
