@@ -1,6 +1,7 @@
+pub mod Facade
 pub mod FreshPairs
 pub mod IndexWords
-pub mod Keeping
+pub mod KeptPromises
 pub mod PlainPairs
 pub mod OfferedPads
 pub mod Places

@@ -23,7 +23,7 @@ use Rattle.plan_model.specs.Both.{at_side}
 use Rattle.plan_model.specs.DeclaredPlans.{Agree, IsDeclared, IsPair, IsPairOf, IsPermitted}
 use Rattle.plan_model.specs.Plans.{pair_plan, side_plan}
 use Rattle.plan_model.specs.Sizes.{Sizes, layout_of, sizes_in, sizes_of}
-use Rattle.plan_model.proofs.Rings.{each_queue_has_a_ring}
+use Rattle.plan_model.proofs.Facade.{each_queue_has_a_ring}
 use Rattle.byte_model.specs.Addresses.{own_slot}
 use Rattle.byte_model.specs.Headers.{Bytes, found_in_memory, found_with, free_in_memory, header_in, index_word_in, part_in_memory}
 use Rattle.ledger_model.specs.Ledger.{LanePart, PairPart, side_of, lane_of, begun_in, entry_in, free_of, head_in}

@@ -15,7 +15,7 @@ use Rattle.ring_geometry.specs.Spots.{Rings, Spot, Payload, Header, Index as Ind
 use Rattle.plan_model.specs.DeclaredPlans.{Agree, IsPair}
 use Rattle.plan_model.specs.Plans.{side_plan}
 use Rattle.plan_model.specs.Sizes.{agreed_version, header_bytes, layout_of, layout_to}
-use Rattle.plan_model.proofs.Rings.{each_queue_has_a_ring}
+use Rattle.plan_model.proofs.Facade.{each_queue_has_a_ring}
 use Rattle.byte_model.specs.Addresses.{own_address, peer_address}
 use Rattle.byte_model.specs.Stores.{Store}
 use Rattle.byte_model.proofs.Facade.{length-word_bytes}

@@ -16,7 +16,7 @@ use Rattle.ring_geometry.specs.Spots.{Rings, Spot, Payload, Header, Index as Ind
 use Rattle.plan_model.specs.DeclaredPlans.{Agree, IsPair}
 use Rattle.plan_model.specs.Plans.{side_plan}
 use Rattle.plan_model.specs.Sizes.{header_bytes, layout_of, layout_to}
-use Rattle.plan_model.proofs.Rings.{each_queue_has_a_ring}
+use Rattle.plan_model.proofs.Facade.{each_queue_has_a_ring}
 use Rattle.byte_model.specs.FreshRings.{fresh_index_word, fresh_index_words, zeroed_header, zeroed_headers, zeroed_flags}
 use Rattle.byte_model.specs.Headers.{word_bytes}
 use Rattle.byte_model.specs.RingWrites.{index_write, store_of_write}

@@ -5,7 +5,7 @@ use Rattle.lane_model.specs.Lane.{Slot, overwritten, zeroed_slot}
 use Rattle.ring_geometry.specs.Geometry.{HasRing, entries_of, max_payload_of}
 use Rattle.ring_geometry.specs.Laws.{StandApart}
 use Rattle.ring_geometry.specs.Spots.{Rings, Spot, Payload, Header, Index, layout_at, IsSpot, AreOther, spot_at, spot_bytes}
-use Rattle.ring_geometry.proofs.SpotLemmas.{spots_apart}
+use Rattle.ring_geometry.proofs.Facade.{spots_apart}
 use Rattle.byte_model.specs.Headers.{word_bytes}
 use Rattle.byte_model.specs.Stores.{Store, bytes_in}
 use Rattle.byte_model.proofs.Facade.{bytes_elsewhere, bytes_over, word_stored, nothing_stored, length-word_bytes, number_of, Leaves, Gives}

@@ -17,7 +17,7 @@ use Rattle.lane_model.specs.declared.Field.TheVariants.{Chunk}
 use Rattle.lane_model.specs.Law.{Stands, StandsWhole}
 use Rattle.lane_model.specs.Ring.{free_entries, head_of, tail_of, room_of}
 use Rattle.ring_geometry.specs.Geometry.{entries_of, window_of, slot_of, header_of}
-use Rattle.ring_geometry.proofs.Room.{free_is_room}
+use Rattle.ring_geometry.proofs.Facade.{free_is_room}
 use Rattle.plan_model.specs.DeclaredPlans.{Agree, IsPair}
 use Rattle.plan_model.specs.Plans.{side_plan}
 use Rattle.plan_model.specs.Sizes.{Sizes, layout_of, layout_to}

@@ -11,7 +11,7 @@ use Rattle.step_kinds.specs.declared.steps.Step.{Step}
 use Rattle.plan_model.specs.DeclaredPlans.{IsDeclared, IsPermitted, IsQueueOf}
 use Rattle.plan_model.specs.Plans.{dev_plan}
 use Rattle.plan_model.specs.Switches.{AreSwitches}
-use Rattle.plan_model.proofs.PermittedSteps.{permitted_by_other, queue_of_other, switches_of_other, with_lists}
+use Rattle.plan_model.proofs.Facade.{permitted_by_other, queue_of_other, switches_of_other, with_lists}
 use Rattle.switch_model.specs.Switch.{new_switch}
 use Rattle.fabric_core.specs.Fabric.{FabricState, StandsFor, bare_plan, plan_kept}
 use Rattle.cluster_core.specs.Cluster.{ClusterState, plan_held}

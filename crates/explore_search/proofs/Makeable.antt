@@ -6,7 +6,7 @@ use Rattle.plan_model.specs.PlanParts.{declared_part}
 use Rattle.step_kinds.specs.declared.plan.Line.{Line}
 use Rattle.step_kinds.specs.declared.plan.Plan.{Plan}
 use Rattle.plan_model.specs.Switches.{IsMakeable}
-use Rattle.plan_model.proofs.PermittedSteps.{makeable_by_other}
+use Rattle.plan_model.proofs.Facade.{makeable_by_other}
 use Rattle.explore_model.specs.Schedules.{IsLanding, landing_step}
 use Rattle.explore_model.specs.declared.outcome.Landing.{Landing}
 

@@ -17,7 +17,7 @@ use Rattle.bridge_pair.specs.Writes.{bell_write, memory_write}
 use Rattle.frame_ring.specs.Calls.{acked_by, after_clear, cleared_by, first_posted, last_got, next_begun, posted_by}
 use Rattle.frame_ring.specs.Port.{PortState, unused_of}
 use Rattle.frame_ring.specs.PortView.{HasPagesIn, flags_cleared, index_posted, reaches, ring_posted, window_posted}
-use Rattle.frame_ring.proofs.Spare.{unused_cleared}
+use Rattle.frame_ring.proofs.Facade.{unused_cleared}
 use Rattle.queue_pair.specs.Queue.{QueueState, with_port}
 use Rattle.fabric_rule.specs.Parts.{QueuePart}
 use Rattle.fabric_core.specs.Parts.{KeepsPort}

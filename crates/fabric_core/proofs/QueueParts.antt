@@ -9,7 +9,7 @@ use Rattle.bridge_pair.specs.Bridge.{Bridge, flight_of}
 use Rattle.frame_ring.specs.Calls.{after_copy}
 use Rattle.frame_ring.specs.Port.{PortState, unused_of}
 use Rattle.frame_ring.specs.PortView.{HasPagesIn}
-use Rattle.frame_ring.proofs.Spare.{unused_copied}
+use Rattle.frame_ring.proofs.Facade.{unused_copied}
 use Rattle.queue_pair.specs.Queue.{QueueState}
 use Rattle.queue_pair.specs.declared.BeginAnswer.{BeginAnswer}
 use Rattle.queue_pair.specs.declared.BeginAnswer.TheVariants.{Ok as IsBegun}

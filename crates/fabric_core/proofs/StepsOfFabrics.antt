@@ -18,7 +18,7 @@ use Rattle.step_kinds.specs.declared.steps.Step.TheVariants.{Check, Ready, Join,
 use Rattle.plan_model.specs.Both.{Both, at_side}
 use Rattle.plan_model.specs.DeclaredPlans.{Agree, IsDeclared, IsPair, IsPairOf, IsPermitted, IsPoke, IsQueueOf, IsShown, SizesFit}
 use Rattle.plan_model.specs.Plans.{no_pair, pair_plan, side_plan}
-use Rattle.plan_model.proofs.PermittedSteps.{permitted_by_other, queue_of_other}
+use Rattle.plan_model.proofs.Facade.{permitted_by_other, queue_of_other}
 use Rattle.ledger_laws.proofs.Facade.{answers_are_right, are_ordinary, has_sides, joined_means_agreement, laws_hold, log_of-last, no_ordinary_ver_differs_or_long, up_means_agreement}
 use Rattle.ledger_laws.specs.Laws.{is_made}
 use Rattle.ledger_model.specs.Ledger.{PairPart, side_of}

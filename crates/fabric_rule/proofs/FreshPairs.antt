@@ -24,7 +24,7 @@ use Rattle.plan_numbers.specs.Memories.{memory_size}
 use Rattle.bridge_pair.specs.Bridge.{Bridge, offer_length}
 use Rattle.bridge_pair.specs.Ends.{bytes_after}
 use Rattle.bridge_pair.specs.Fresh.{fresh_bridge}
-use Rattle.hand_shake.proofs.OwnOffers.{own_length}
+use Rattle.hand_shake.proofs.Facade.{own_length}
 use Rattle.std.specs.Prelude.{slice_index_or}
 use Rattle.ledger_model.specs.Next.{fresh_dev}
 use Rattle.queue_pair.specs.Queue.{QueueState}

@@ -5,7 +5,7 @@ use Rattle.std.proofs.lemmas.Bool.Decides.{nat_tests}
 use Rattle.std.proofs.lemmas.List.{drop_more, get_or-map, length-append, length-drop, length-map, length-take}
 use Rattle.lane_model.specs.Lane.{Entry, GoesDown, bytes_of, chunks_in, count_from, left_of, writes_of}
 use Rattle.lane_model.specs.Tests.{is_empty_list}
-use Rattle.lane_model.proofs.ConsecutiveNumbers.{get_or-count_from, length-count_from}
+use Rattle.lane_model.proofs.Facade.{get_or-count_from, length-count_from}
 use Rattle.plan_model.specs.Labels.{label_of, labels_of}
 use Rattle.plan_model.specs.Pieces.{piece_of, pieces_of}
 use Rattle.plan_model.specs.Sizes.{pieces_in}

@@ -16,7 +16,7 @@ use Rattle.ring_geometry.specs.Geometry.{window_of}
 use Rattle.plan_numbers.specs.Memories.{memory_size}
 use Rattle.bridge_pair.specs.Bridge.{Bridge, IsBridge, bytes_of as memory_of, pages_of}
 use Rattle.bridge_pair.specs.Pages.{PagesGrow}
-use Rattle.bridge_pair.proofs.Promises.{grows_further, grows_nothing, promised_still}
+use Rattle.bridge_pair.proofs.Facade.{grows_further, grows_nothing, promised_still}
 use Rattle.frame_ring.specs.Outgoing.{entry_at}
 use Rattle.frame_ring.specs.Promises.{IsEntryPromised, IsRangePromised, ReachesPeer, TouchesEntries, TouchesEntry, TouchesRange}
 use Rattle.frame_ring.specs.Rings.{QueueOf}

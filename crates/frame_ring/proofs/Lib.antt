@@ -1,5 +1,6 @@
 pub mod Entries
 pub mod EntryPages
+pub mod Facade
 pub mod FoundEntries
 pub mod HeaderWords
 pub mod LookAnswers

@@ -11,7 +11,7 @@ use Rattle.step_kinds.specs.declared.steps.Label.{Label}
 use Rattle.step_kinds.specs.declared.steps.Label.TheVariants.{Chunk, Len, Ver, Flag, Down, Bell}
 use Rattle.frame_ring.specs.Calls.{first_label}
 use Rattle.frame_ring.specs.Outgoing.{carries_bytes, label_by}
-use Rattle.lane_model.proofs.ConsecutiveNumbers.{get_or-count_from, length-count_from}
+use Rattle.lane_model.proofs.Facade.{get_or-count_from, length-count_from}
 
 abbrev pub chunk_labels : ℕ → ℕ → ℕ → List Label
 chunk_labels queue n chunks = map (λ part. Chunk queue n part) (count_from 0 chunks)

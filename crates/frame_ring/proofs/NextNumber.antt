@@ -4,7 +4,7 @@ use Rattle.step_kinds.specs.declared.lanes.Begun.TheVariants.{Ok as BegunOk, Too
 use Rattle.plan_model.specs.Sizes.{pieces_in}
 use Rattle.bridge_pair.specs.Bridge.{Bridge}
 use Rattle.bridge_pair.specs.Pages.{PagesGrow}
-use Rattle.bridge_pair.proofs.Promises.{grows_further, grows_nothing}
+use Rattle.bridge_pair.proofs.Facade.{grows_further, grows_nothing}
 use Rattle.frame_ring.specs.Calls.{TouchedByBegin, TouchedByDown, begin_answer, down_answer, down_begun, frame_begun, free_seen, head_seen, index_word_seen, sizes_seen}
 use Rattle.frame_ring.specs.Port.{PortState, is_busy, writes_left}
 use Rattle.frame_ring.specs.PortView.{TouchesLeft}

@@ -10,7 +10,7 @@ use Rattle.plan_model.specs.Labels.{labels_of}
 use Rattle.plan_model.specs.Pieces.{pieces_of}
 use Rattle.bridge_pair.specs.Bridge.{Bridge, flight_of, pages_of, with_pages}
 use Rattle.bridge_pair.specs.Pages.{PagesGrow}
-use Rattle.bridge_pair.proofs.Promises.{grows_further, grows_nothing, promised_still}
+use Rattle.bridge_pair.proofs.Facade.{grows_further, grows_nothing, promised_still}
 use Rattle.frame_ring.specs.Calls.{down_begun, entries_begun, frame_begun, sizes_seen}
 use Rattle.frame_ring.specs.Outgoing.{Outgoing, all_writes_in, entry_at, with_progress}
 use Rattle.frame_ring.specs.Port.{Left, PortState, Sending, is_busy, left_of_entry, unused_of, with_sending, writes_from, writes_left}

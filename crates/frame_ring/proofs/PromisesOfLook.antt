@@ -16,7 +16,7 @@ use Rattle.plan_model.specs.Sizes.{Sizes, layout_to, sizes_in}
 use Rattle.lane_model.specs.declared.Phase.TheVariants.{Copying}
 use Rattle.bridge_pair.specs.Bridge.{Bridge, pages_of, with_pages}
 use Rattle.bridge_pair.specs.Pages.{PagesGrow}
-use Rattle.bridge_pair.proofs.Promises.{grows_further, grows_nothing, promised_still}
+use Rattle.bridge_pair.proofs.Facade.{grows_further, grows_nothing, promised_still}
 use Rattle.frame_ring.specs.Calls.{FindsEntry, TouchedByFlags, TouchedByLook, found_seen, look_answer, look_found}
 use Rattle.frame_ring.specs.Port.{Left, PortState, Receiving, with_receiving, writes_left}
 use Rattle.frame_ring.specs.PortView.{HasPages, IsLeftReady, IsReady, IsReadyToLand, TouchesWrite, bytes_seen, with_room}

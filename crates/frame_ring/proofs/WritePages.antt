@@ -18,7 +18,7 @@ use Rattle.frame_ring.specs.Port.{Left, left_of_entry, writes_from}
 use Rattle.frame_ring.specs.Promises.{AreEntriesPromised, IsEntryPromised, IsRangePromised, TouchesEntries, TouchesEntry, TouchesRange}
 use Rattle.frame_ring.specs.Rings.{QueueOf}
 use Rattle.frame_ring.specs.PortView.{IsLeftReady, IsReadyToLand, TouchesLeft, TouchesOf, TouchesWrite}
-use Rattle.lane_model.proofs.ConsecutiveNumbers.{get_or-count_from, length-count_from}
+use Rattle.lane_model.proofs.Facade.{get_or-count_from, length-count_from}
 use Rattle.frame_ring.proofs.NextLabel.{chunk_labels, labels_are, last_labels}
 
 -- Lists

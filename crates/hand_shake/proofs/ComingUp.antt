@@ -7,7 +7,7 @@ use Rattle.bridge_pair.specs.Bridge.{Bridge, book_of, bytes_of, pages_of, with_b
 use Rattle.bridge_pair.specs.Ends.{bytes_after}
 use Rattle.bridge_pair.specs.Pages.{PagesGrow}
 use Rattle.bridge_pair.specs.Words.{AreIndexWordsPromised, TouchesIndexWord}
-use Rattle.bridge_pair.proofs.Promises.{grows_further, grows_nothing}
+use Rattle.bridge_pair.proofs.Facade.{grows_further, grows_nothing}
 use Rattle.step_kinds.specs.declared.plan.PairPlan.{PairPlan}
 use Rattle.hand_shake.specs.Checks.{TouchesAnyRing, TouchesRings, came_up, check_answer}
 use Rattle.hand_shake.specs.Headers.{AreHeadersReady, AreRingsReady, TouchesHeader}

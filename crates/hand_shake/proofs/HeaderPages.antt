@@ -18,7 +18,7 @@ use Rattle.step_kinds.specs.declared.plan.PairPlan.{PairPlan}
 use Rattle.bridge_pair.specs.Bridge.{Bridge, bytes_of, pages_of, with_bytes, with_pages}
 use Rattle.bridge_pair.specs.Ends.{bytes_after}
 use Rattle.bridge_pair.specs.Pages.{PagesGrow}
-use Rattle.bridge_pair.proofs.Promises.{grows_further, grows_nothing, promised_still}
+use Rattle.bridge_pair.proofs.Facade.{grows_further, grows_nothing, promised_still}
 use Rattle.hand_shake.specs.Headers.{AreHeadersOfReady, AreSomeZeroed, IsHeaderReady, IsReceivingRing, IsZeroed, TouchesHeader, TouchesHeaderOf, ring_stores}
 use borrow.Author.Count.{below_more}
 

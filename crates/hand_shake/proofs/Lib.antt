@@ -1,5 +1,6 @@
 pub mod Books
 pub mod ComingUp
+pub mod Facade
 pub mod HeaderPages
 pub mod OfferPlaces
 pub mod OwnOffers

@@ -18,8 +18,7 @@ use Rattle.posted_queue.specs.Flight.{Flight}
 use Rattle.posted_queue.specs.Landing.{answer_for, land_answer as queue_answer, after_landing as queue_after}
 use Rattle.posted_queue.specs.declared.LandAnswer.TheVariants.{Landed as QueueLanded, Blocked as QueueBlocked, Nothing as QueueNothing}
 use Rattle.order_rules.specs.Order.{Order, relaxed, may_land}
-use Rattle.posted_queue.proofs.LandingLemmas.{may_land-past}
-use Rattle.posted_queue.proofs.LawLemmas.{split-at_place}
+use Rattle.posted_queue.proofs.Facade.{may_land-past, split-at_place}
 use Rattle.lane_core.specs.Calls.{LaneValue, kind_of_mark, order_of_mark, may_land_in, land_answer, land_found, after_land, after_found, label_in}
 use Rattle.lane_core.specs.Parts.{BeginsWithin, CanStore, IsKnown, flags_landed, ring_after}
 use Rattle.lane_core.specs.LaneView.{IsKept, lane_seen, value_seen}

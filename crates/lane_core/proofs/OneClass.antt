@@ -6,7 +6,7 @@ use Rattle.std.proofs.lemmas.List.Elements.{All-nil, All-cons}
 use Rattle.std.proofs.lemmas.Option.{slice_get-map, get_or_from_slice_get}
 use Rattle.order_rules.specs.Order.{Order, relaxed, may_land}
 use Rattle.posted_queue.specs.Laws.{lands_by_kind}
-use Rattle.posted_queue.proofs.LawLemmas.{may_land-one_class}
+use Rattle.posted_queue.proofs.Facade.{may_land-one_class}
 
 one_class : {W : Type 0} (order : W → Order) (class : ℕ) (writes : List W) → ((write : W) → (order write).class ≡ class)
     → All (λ (order : Order). order.class ≡ class) (map order writes)

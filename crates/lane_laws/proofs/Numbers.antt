@@ -4,7 +4,7 @@ use native.Mathlib.Nat.{mod-eq-sub-mod, mod-add-mod, add-mod_right}
 use Rattle.std.proofs.lemmas.Bool.{cases_lt, cond-true, cond-false, le-leb, lt-leb}
 use Rattle.lane_model.specs.Ring.{head_of, tail_of, free_entries, room_of}
 use Rattle.lane_model.specs.Lane.{count_from}
-pub use Rattle.lane_model.proofs.ConsecutiveNumbers.{length-count_from, get_or-count_from}
+pub use Rattle.lane_model.proofs.Facade.{length-count_from, get_or-count_from}
 
 -- a number below 2 N wraps once at most
 wraps_once : (N j : ℕ) → j < N + N → ((j < N) × (j % N ≡ j)) ⊎ ((N ≤ j) × (j % N ≡ j - N))

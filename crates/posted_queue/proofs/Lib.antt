@@ -1,4 +1,5 @@
 pub mod CountLemmas
+pub mod Facade
 pub mod RowLemmas
 pub mod LevelLemmas
 pub mod BlocksLemmas

@@ -1,4 +1,5 @@
 pub mod BlockedAnswers
+pub mod Facade
 pub mod LaneCounts
 pub mod PermittedSteps
 pub mod RefusedSteps

@@ -12,7 +12,7 @@ use Rattle.step_kinds.specs.declared.steps.Step.TheVariants.{Ack, Clear, Copy, L
 use Rattle.step_list.specs.Compact.{lines_with}
 use Rattle.plan_model.specs.Switches.{IsMakeable}
 use Rattle.plan_model.specs.Macros.{receive}
-use Rattle.plan_model.proofs.PermittedSteps.{makeable_by_other}
+use Rattle.plan_model.proofs.Facade.{makeable_by_other}
 
 -- a cluster that keeps a plan's pairs and devices may make the steps that the plan permits
 pub steps_permitted : (plan kept : Plan) (lines : List Line) → kept ≡ declared_part plan → All (λ line. IsMakeable plan line.step) lines → All (λ line. IsMakeable kept line.step) lines

@@ -1,3 +1,4 @@
 pub mod Devices
+pub mod Facade
 pub mod Repeats
 pub mod Runs

@@ -1,4 +1,5 @@
 pub mod Areas
+pub mod Facade
 pub mod Room
 pub mod SpotLemmas
 pub mod Within

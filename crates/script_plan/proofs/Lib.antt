@@ -1,4 +1,5 @@
 pub mod Classes
+pub mod Facade
 pub mod Floods
 pub mod NameNumbers
 pub mod Soundness

@@ -1,6 +1,7 @@
 pub mod AddedLines
 pub mod CutInput
 pub mod DeclarationFits
+pub mod Facade
 pub mod FewWords
 pub mod Fits
 pub mod Gives

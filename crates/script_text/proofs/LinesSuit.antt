@@ -16,7 +16,7 @@ use Rattle.script_words.specs.TrafficLines.{flood_frame}
 use Rattle.script_words.specs.declared.line_gives.Given.{Given}
 use Rattle.script_words.specs.declared.line_gives.Given.TheVariants.{Nothing, Host, Pair, Device, Class, Switch, StepsBegin, TrafficBegins, Frame, Flood, Break}
 use Rattle.script_plan.specs.Sound.{Suits}
-use Rattle.script_plan.proofs.Floods.{flood_frames, flood_bytes, length_flood_frame}
+use Rattle.script_plan.proofs.Facade.{flood_frames, flood_bytes, length_flood_frame}
 use Rattle.script_text.specs.SoundLines.{Held}
 use Rattle.script_text.proofs.Fits.{Fits, AddsTraffic}
 use Rattle.script_text.proofs.TrafficFits.{one_break}

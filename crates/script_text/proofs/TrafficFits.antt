@@ -23,7 +23,7 @@ use Rattle.script_words.specs.Tests.{unknown_line, whole}
 use Rattle.script_words.specs.TrafficLines.{may_have_traffic, is_little, traffic_within, lane_of, traffic_frame_line, flood_frame, flood_line, break_line, traffic_line}
 use Rattle.script_words.specs.declared.fault.Cause.TheVariants.{BadGeometry, BadPair, TooMany}
 use Rattle.script_words.specs.declared.parts.Part.TheVariants.{Declarations}
-use Rattle.script_plan.proofs.Floods.{length_flood_frame}
+use Rattle.script_plan.proofs.Facade.{length_flood_frame}
 use Rattle.script_text.specs.SoundLines.{Filled}
 use Rattle.script_text.proofs.Fits.{Fits}
 use Rattle.script_text.proofs.Gives.{Gives, gives_ok, gives_fault, gives_then, gives_passed, gives_at, gives_if}

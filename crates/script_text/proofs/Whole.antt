@@ -19,7 +19,7 @@ use Rattle.step_kinds.specs.declared.plan.Traffic.{Traffic}
 use Rattle.step_kinds.specs.declared.plan.Traffic.TheVariants.{Send, Break as LinkLoss}
 use Rattle.step_kinds.specs.declared.steps.Step.{Step}
 use Rattle.plan_model.specs.DeclaredPlans.{IsPair, IsDevice, IsDeclared, SameQueue}
-use Rattle.plan_model.proofs.PermittedSteps.{with_lists, queue_of_other, switches_of_other, makeable_by_other}
+use Rattle.plan_model.proofs.Facade.{with_lists, queue_of_other, switches_of_other, makeable_by_other}
 use Rattle.plan_model.specs.Plans.{pair_plan, dev_plan, ports_in, no_pair, no_dev}
 use Rattle.plan_model.specs.Switches.{AreSwitches, IsMakeable, IsSwitch}
 use Rattle.plan_model.specs.TrafficPlans.{frames_in, bytes_in, is_break_of, IsTraffic, IsWhole}
@@ -34,9 +34,7 @@ use Rattle.script_words.specs.declared.parts.Part.{Part}
 use Rattle.script_words.specs.declared.parts.Part.TheVariants.{Declarations, Steps, Traffic as TrafficPart}
 use Rattle.script_words.specs.declared.parts.PairHosts.{PairHosts}
 use Rattle.script_words.specs.declared.parts.QueueName.{QueueName}
-use Rattle.script_plan.proofs.Classes.{length-set_pairs}
-use Rattle.script_plan.proofs.Floods.{sum-map-append}
-use Rattle.script_plan.proofs.Soundness.{device_stays, queue_stays, switch_stays, class_fits, queue_classed}
+use Rattle.script_plan.proofs.Facade.{length-set_pairs, sum-map-append, device_stays, queue_stays, switch_stays, class_fits, queue_classed}
 use Rattle.script_text.specs.SoundLines.{Held, Filled}
 use Rattle.script_text.specs.ParseClauses.{after_line}
 use Rattle.script_text.specs.Script.{header_line, is_header, words_line, line_gives, read_lines, plan_of, script_of}

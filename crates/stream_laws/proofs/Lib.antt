@@ -1,3 +1,4 @@
+pub mod Facade
 pub mod Lists
 pub mod Numbers
 pub mod Receivers

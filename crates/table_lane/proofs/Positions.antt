@@ -3,7 +3,7 @@ use Rattle.std.proofs.Common.{◌≡◌, ℕ, ◌+◌, ◌-◌, ◌%◌, ◌<◌
 use Rattle.std.proofs.Math.Nat.{mod-add-mod, add-mod_right}
 use Rattle.table_rule.specs.LaneNames.{tail_of}
 use Rattle.table_rule.specs.ShownLane.{number_at}
-use Rattle.table_rule.proofs.LaneLaws.{number_is}
+use Rattle.table_rule.proofs.Facade.{number_is}
 
 -- a position is below the number of entries
 pub position_below : (N n position : ℕ) → 2 ≤ N → position ≡ n % N → position < N

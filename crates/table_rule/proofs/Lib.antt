@@ -1,5 +1,6 @@
 pub mod BackSteps
 pub mod ClaimsAndLoads
+pub mod Facade
 pub mod Flights
 pub mod LaneLaws
 pub mod LaneRuns

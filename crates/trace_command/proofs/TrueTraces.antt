@@ -4,7 +4,7 @@ use Rattle.command_reply.specs.Output.{Output}
 use Rattle.ledger_model.specs.Log.{Answered}
 use Rattle.memory_model.specs.Memory.{memory_of}
 use Rattle.replay_command.specs.Replays.{answered_steps, log_of_plan}
-use Rattle.replay_command.proofs.StepsMade.{length-answers}
+use Rattle.replay_command.proofs.Facade.{length-answers}
 use Rattle.script_text.specs.Script.{script_of}
 use Rattle.script_words.specs.declared.fault.ScriptFault.{ScriptFault}
 use Rattle.step_kinds.specs.declared.plan.Line.{Line}
@@ -13,7 +13,7 @@ use Rattle.step_kinds.specs.declared.steps.Answer.{Answer}
 use Rattle.step_kinds.specs.declared.steps.Step.{Step}
 use Rattle.switch_log.specs.Log.{switch_log}
 use Rattle.trace_laws.specs.Laws.{HaveTheirAnswers, steps_of}
-use Rattle.trace_laws.proofs.LinesAreTrue.{traces_are_true}
+use Rattle.trace_laws.proofs.Facade.{traces_are_true}
 use Rattle.trace_command.specs.Answers.{HasTrueTrace, IsTraceOf, traced}
 
 answers_in : List Answered → List Answer

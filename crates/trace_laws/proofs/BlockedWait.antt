@@ -15,7 +15,7 @@ use Rattle.step_kinds.specs.declared.steps.Label.{Label}
 use Rattle.step_kinds.specs.declared.steps.Label.TheVariants.{Pad}
 use Rattle.step_kinds.specs.declared.steps.Step.TheVariants.{Land}
 use Rattle.order_rules.specs.Order.{passes, relaxed}
-use Rattle.posted_queue.proofs.LandingLemmas.{may_land-map}
+use Rattle.posted_queue.proofs.Facade.{may_land-map}
 use Rattle.plan_model.specs.Orders.{class_of, classes_of, kind_of, order_of}
 use Rattle.plan_model.specs.Plans.{pair_plan}
 use Rattle.ledger_model.specs.Log.{ledger_of, log_of}

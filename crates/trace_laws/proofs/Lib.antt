@@ -1,5 +1,6 @@
 pub mod AnswersFit
 pub mod BlockedWait
+pub mod Facade
 pub mod LandingsOfLabels
 pub mod LinesAreTrue
 pub mod LogsInStep

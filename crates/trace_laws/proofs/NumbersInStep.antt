@@ -4,7 +4,7 @@ use Rattle.std.specs.Prelude.{drop, remove, slice_get, take}
 use Rattle.std.specs.List.{drop-map, take-map}
 use Rattle.std.proofs.lemmas.List.{map-append}
 use Rattle.step_kinds.specs.declared.steps.Label.{Label}
-use Rattle.posted_queue.proofs.LevelLemmas.{slice_get-append_far}
+use Rattle.posted_queue.proofs.Facade.{slice_get-append_far}
 use Rattle.plan_model.specs.Orders.{class_of}
 use Rattle.trace_text.specs.Writes.{SideWrites, with_dropped, with_landed, with_posted}
 use Rattle.trace_text.specs.declared.writes.FlyingWrite.{FlyingWrite}

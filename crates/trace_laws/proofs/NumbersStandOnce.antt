@@ -18,7 +18,7 @@ use Rattle.step_kinds.specs.declared.steps.Step.{Step}
 use Rattle.step_kinds.specs.declared.steps.Step.TheVariants.{Train, Break, DropDone, Offer, Ready, Post, Land, Ack, Spad, Poke}
 use Rattle.plan_model.specs.Both.{Both, at_side}
 use Rattle.plan_model.specs.Plans.{pair_plan}
-use Rattle.posted_queue.proofs.CountLemmas.{count_by-remove}
+use Rattle.posted_queue.proofs.Facade.{count_by-remove}
 use Rattle.ledger_model.specs.Log.{Answered, Memories, log_of}
 use Rattle.ledger_laws.specs.Laws.{IsOrdinaryPair}
 use Rattle.ledger_laws.proofs.Facade.{count_by-last, get-map, log_of-last}

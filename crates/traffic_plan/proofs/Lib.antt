@@ -1,3 +1,4 @@
+pub mod Facade
 pub mod Frames
 pub mod Sends
 pub mod Whole

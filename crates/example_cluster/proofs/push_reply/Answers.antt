@@ -1,4 +1,4 @@
-use Rattle.script_text.proofs.Whole.{plan_is_whole}
+use Rattle.script_text.proofs.Facade.{plan_is_whole}
 use Rattle.example_cluster.proofs.push_reply.Goals as goal
 
 pub push_answers-requires : goal.push_answers-requires

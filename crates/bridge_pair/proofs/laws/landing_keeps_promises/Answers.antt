@@ -1,4 +1,4 @@
-use Rattle.bridge_pair.proofs.Keeping.{landing_keeps_promises}
+use Rattle.bridge_pair.proofs.KeptPromises.{landing_keeps_promises}
 use Rattle.bridge_pair.proofs.laws.landing_keeps_promises.Goals as goal
 
 pub returns : goal.returns

@@ -1,5 +1,5 @@
 use Rattle.std.proofs.Common.{ap}
-use Rattle.script_text.proofs.Whole.{plan_is_whole}
+use Rattle.script_text.proofs.Facade.{plan_is_whole}
 use Rattle.script_text.specs.Script.{plan_of}
 use Rattle.check_command.proofs.check.check_reply.Goals as goal
 

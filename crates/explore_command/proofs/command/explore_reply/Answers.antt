@@ -1,4 +1,4 @@
-use Rattle.script_text.proofs.Whole.{plan_is_whole}
+use Rattle.script_text.proofs.Facade.{plan_is_whole}
 use Rattle.explore_command.proofs.command.explore_reply.Goals as goal
 
 pub exploration-requires : goal.exploration-requires

@@ -3,8 +3,7 @@ use Rattle.step_kinds.specs.declared.plan.PairPlan.{PairPlan}
 use Rattle.bridge_pair.specs.Bridge.{Bridge, bytes_of, pages_of}
 use Rattle.bridge_pair.specs.Pages.{PagesGrow}
 use Rattle.bridge_pair.specs.Words.{AreIndexWordsPromised}
-use Rattle.bridge_pair.proofs.Promises.{grows_further, grows_nothing}
-use Rattle.bridge_pair.proofs.Sides.{pages_again, pages_of-with_bytes}
+use Rattle.bridge_pair.proofs.Facade.{grows_further, grows_nothing, pages_again, pages_of-with_bytes}
 use Rattle.hand_shake.specs.Checks.{TouchesAnyRing}
 use Rattle.hand_shake.specs.Headers.{AreHeadersReady, TouchesHeader}
 use Rattle.hand_shake.proofs.ComingUp.{came_up_is, headers_still, rings_grow, rings_ready}

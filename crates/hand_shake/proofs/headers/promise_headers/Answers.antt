@@ -1,5 +1,5 @@
 use Rattle.std.proofs.Common.{arith}
-use Rattle.bridge_pair.proofs.Sides.{pages_again}
+use Rattle.bridge_pair.proofs.Facade.{pages_again}
 use Rattle.hand_shake.proofs.HeaderPages.{ring_grows, ring_ready}
 use Rattle.hand_shake.proofs.headers.promise_headers.Goals as goal
 

@@ -5,8 +5,7 @@ use Rattle.plan_model.specs.Sizes.{header_bytes, layout_to}
 use Rattle.ring_geometry.specs.Geometry.{Layout, entries_of}
 use Rattle.bridge_pair.specs.Bridge.{Bridge, bytes_of, pages_of}
 use Rattle.bridge_pair.specs.Pages.{PagesGrow}
-use Rattle.bridge_pair.proofs.Promises.{grows_nothing}
-use Rattle.bridge_pair.proofs.Sides.{pages_again}
+use Rattle.bridge_pair.proofs.Facade.{grows_nothing, pages_again}
 use Rattle.plan_model.specs.Plans.{side_plan}
 use Rattle.plan_numbers.specs.Memories.{WindowsFit}
 use Rattle.step_kinds.specs.declared.plan.PairPlan.{PairPlan}

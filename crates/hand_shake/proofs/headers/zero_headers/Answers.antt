@@ -1,7 +1,7 @@
 use Rattle.std.proofs.Common.{◌-◌, ap, ◌∙◌, arith}
 use Rattle.bridge_pair.specs.Bridge.{Bridge, bytes_of, pages_of, with_bytes}
 use Rattle.bridge_pair.specs.Ends.{bytes_after}
-use Rattle.bridge_pair.proofs.Sides.{bytes_again}
+use Rattle.bridge_pair.proofs.Facade.{bytes_again}
 use Rattle.hand_shake.specs.Headers.{AreHeadersOfReady, ring_stores}
 use Rattle.hand_shake.proofs.HeaderPages.{ring_before}
 use Rattle.hand_shake.proofs.ZeroHeaders.{ready_after_rings, stored_again}

@@ -5,7 +5,7 @@ use Rattle.plan_model.specs.Sizes.{header_bytes, layout_to}
 use Rattle.ring_geometry.specs.Geometry.{Layout, entries_of}
 use Rattle.bridge_pair.specs.Bridge.{Bridge, bytes_of, pages_of, with_bytes}
 use Rattle.bridge_pair.specs.Ends.{bytes_after}
-use Rattle.bridge_pair.proofs.Sides.{bytes_again}
+use Rattle.bridge_pair.proofs.Facade.{bytes_again}
 use Rattle.hand_shake.specs.Headers.{AreSomeZeroed, IsHeaderReady, some_stores}
 use Rattle.hand_shake.proofs.HeaderPages.{bytes_same, header_before}
 use Rattle.hand_shake.proofs.SomeHeaders.{passed_over}

@@ -2,7 +2,7 @@ use Rattle.std.proofs.Common.{◌≡◌, ◌∙◌, ap, sym}
 use Rattle.std.proofs.lemmas.Result.{IfOk-weaker}
 use Rattle.command_reply.specs.Output.{Output, done}
 use Rattle.script_plan.specs.Scripts.{plan_in}
-use Rattle.script_text.proofs.Whole.{plan_is_whole}
+use Rattle.script_text.proofs.Facade.{plan_is_whole}
 use Rattle.replay_command.specs.Answers.{IsReplayOf, replayed}
 use Rattle.replay_command.specs.Replays.{replay_text}
 use Rattle.replay_command.proofs.TrueLogs.{replay_is_true}

@@ -5,8 +5,7 @@ use Rattle.step_kinds.specs.declared.plan.Line.{Line}
 use Rattle.plan_model.specs.DeclaredPlans.{IsPermitted}
 use Rattle.plan_model.specs.Switches.{IsMakeable}
 use Rattle.traffic_plan.specs.Load.{LoadGiven, frames_given, lines_of_frame, load_of, plan_of}
-use Rattle.traffic_plan.proofs.Frames.{frames_more}
-use Rattle.traffic_plan.proofs.Whole.{lines_permitted, load_is_whole}
+use Rattle.traffic_plan.proofs.Facade.{frames_more, lines_permitted, load_is_whole}
 use Rattle.replay_command.specs.ReplaySteps.{HasKept, with_blocked}
 use Rattle.replay_command.proofs.BlockedAnswers.{blocked_counted, blocked_in}
 use Rattle.replay_command.proofs.PermittedSteps.{steps_permitted}

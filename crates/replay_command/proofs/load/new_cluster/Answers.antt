@@ -1,6 +1,6 @@
 use Rattle.std.proofs.Common.{ap, sym, subst, arith}
 use Rattle.plan_model.specs.PlanParts.{declared_part}
-use Rattle.traffic_plan.proofs.Whole.{load_is_whole}
+use Rattle.traffic_plan.proofs.Facade.{load_is_whole}
 use Rattle.traffic_plan.specs.Load.{load_of}
 use Rattle.plan_model.specs.DeclaredPlans.{IsDeclared}
 use Rattle.plan_model.specs.Switches.{AreSwitches}

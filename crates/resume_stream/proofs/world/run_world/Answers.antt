@@ -1,7 +1,7 @@
 use Rattle.std.proofs.Common.{◌≡◌, true, take, sym, subst}
 use Rattle.stream_model.specs.Sender.{last_given}
 use Rattle.stream_model.specs.World.{World, can_give_back, last_frame}
-use Rattle.stream_laws.proofs.WorldLaws.{last_after}
+use Rattle.stream_laws.proofs.Facade.{last_after}
 use Rattle.resume_stream.proofs.world.run_world.Goals as goal
 
 abbrev LastIsGiven : World → Type 0

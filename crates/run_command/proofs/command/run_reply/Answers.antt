@@ -1,5 +1,5 @@
 use Rattle.script_plan.specs.Scripts.{plan_in}
-use Rattle.script_text.proofs.Whole.{plan_is_whole}
+use Rattle.script_text.proofs.Facade.{plan_is_whole}
 use Rattle.run_command.proofs.command.run_reply.Goals as goal
 
 pub run_script-requires-clause-whole : goal.run_script-requires-clause-whole

@@ -4,7 +4,7 @@ use Rattle.script_words.specs.Before.{MoreTraffic}
 use Rattle.script_words.specs.Compact.{flood_of}
 use Rattle.script_words.specs.Tests.{and_then}
 use Rattle.script_words.specs.TrafficLines.{lane_of, traffic_within}
-use Rattle.script_plan.proofs.Floods.{flood_frames, flood_bytes}
+use Rattle.script_plan.proofs.Facade.{flood_frames, flood_bytes}
 use Rattle.script_text.proofs.traffic_lines.flood_line.Goals as goal
 
 pub returns-in_err-test_lane : goal.returns-in_err-test_lane

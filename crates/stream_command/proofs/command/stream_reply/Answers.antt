@@ -1,5 +1,5 @@
 use Rattle.script_plan.specs.Scripts.{plan_in}
-use Rattle.script_text.proofs.Whole.{plan_is_whole}
+use Rattle.script_text.proofs.Facade.{plan_is_whole}
 use Rattle.stream_command.proofs.command.stream_reply.Goals as goal
 
 pub stream_script-requires-clause-whole : goal.stream_script-requires-clause-whole

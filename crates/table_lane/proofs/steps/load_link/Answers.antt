@@ -1,5 +1,5 @@
 use Rattle.std.proofs.Common.{arith}
-use Rattle.table_rule.proofs.SendSteps.{sees_link_allowed}
+use Rattle.table_rule.proofs.Facade.{sees_link_allowed}
 use Rattle.table_lane.proofs.steps.load_link.Goals as goal
 
 pub load-requires : goal.load-requires

@@ -5,8 +5,7 @@ use Rattle.table_rule.specs.Words.{spacing}
 use Rattle.table_rule.specs.Rule.{Sitter}
 use Rattle.table_rule.specs.Views.{the_move, with_move}
 use Rattle.table_rule.specs.Knowledge.{header_stored}
-use Rattle.table_rule.proofs.LaneLaws.{number_is}
-use Rattle.table_rule.proofs.MoveSteps.{stores_header_allowed}
+use Rattle.table_rule.proofs.Facade.{number_is, stores_header_allowed}
 use Rattle.table_lane.proofs.WordsInTable.{header_stands}
 use Rattle.table_lane.proofs.steps.store_header.Goals as goal
 

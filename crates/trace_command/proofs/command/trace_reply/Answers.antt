@@ -1,7 +1,7 @@
 use Rattle.std.proofs.Common.{◌∙◌, ap, sym}
 use Rattle.command_reply.specs.Output.{done}
 use Rattle.script_plan.specs.Scripts.{plan_in}
-use Rattle.script_text.proofs.Whole.{plan_is_whole}
+use Rattle.script_text.proofs.Facade.{plan_is_whole}
 use Rattle.trace_command.specs.Answers.{traced}
 use Rattle.trace_command.proofs.TrueTraces.{trace_is_true}
 use Rattle.trace_command.proofs.command.trace_reply.Goals as goal

@@ -1,4 +1,4 @@
-use Rattle.report_text.proofs.Devices.{grown}
+use Rattle.report_text.proofs.Facade.{grown}
 use Rattle.std.specs.List.{flat_map, range_with_len}
 use Rattle.trace_command.specs.Head.{ring_after}
 use Rattle.trace_command.proofs.Heads.{rings_more}

@@ -9,7 +9,7 @@ use Rattle.trace_command.specs.Trace.{Traced}
 use Rattle.trace_command.proofs.Traces.{lines_kept}
 use Rattle.trace_command.proofs.WholeTraces.{trace_is}
 use Rattle.script_plan.specs.Scripts.{plan_in}
-use Rattle.replay_command.proofs.PermittedSteps.{steps_permitted}
+use Rattle.replay_command.proofs.Facade.{steps_permitted}
 use Rattle.trace_command.proofs.trace.text_by.Goals as goal
 
 pub make_steps-requires : goal.make_steps-requires

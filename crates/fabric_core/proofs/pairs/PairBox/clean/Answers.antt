@@ -1,5 +1,5 @@
 use Rattle.std.proofs.Common.{subst, sym}
-use Rattle.bridge_pair.proofs.Keeping.{link_steps_keep_promises}
+use Rattle.bridge_pair.proofs.Facade.{link_steps_keep_promises}
 use Rattle.bridge_pair.specs.Bridge.{Bridge}
 use Rattle.bridge_pair.specs.Laws.{KeepsPromises}
 use Rattle.step_kinds.specs.declared.names.Side.TheVariants.{A, B}

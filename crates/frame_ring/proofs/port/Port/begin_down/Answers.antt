@@ -4,7 +4,7 @@ use Rattle.step_kinds.specs.Sides.{other_side}
 use Rattle.step_kinds.specs.declared.names.Side.{Side}
 use Rattle.bridge_pair.specs.Bridge.{Bridge, flight_of, pages_of, with_flight, with_pages}
 use Rattle.bridge_pair.specs.Pages.{PagesGrow}
-use Rattle.bridge_pair.proofs.Promises.{grows_nothing}
+use Rattle.bridge_pair.proofs.Facade.{grows_nothing}
 use Rattle.posted_queue.specs.Flight.{promised}
 use Rattle.frame_ring.specs.Calls.{down_begun}
 use Rattle.frame_ring.specs.Outgoing.{Outgoing}

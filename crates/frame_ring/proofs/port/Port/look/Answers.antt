@@ -7,7 +7,7 @@ use Rattle.ring_geometry.specs.Geometry.{max_payload_of}
 use Rattle.step_kinds.specs.Limits.{most_frame_bytes}
 use Rattle.step_kinds.specs.Sides.{other_side}
 use Rattle.bridge_pair.specs.Bridge.{pages_of}
-use Rattle.bridge_pair.proofs.Promises.{grows_nothing}
+use Rattle.bridge_pair.proofs.Facade.{grows_nothing}
 use Rattle.frame_ring.specs.Calls.{FindsEntry, TouchedByFlags, TouchedByLook, after_look, found_seen, look_answer, look_found}
 use Rattle.frame_ring.specs.Port.{PortState, unused_of, with_receiving}
 use Rattle.frame_ring.specs.Ports.{port_seen}

@@ -9,7 +9,7 @@ use Rattle.step_kinds.specs.Limits.{most_frame_bytes}
 use Rattle.step_kinds.specs.Sides.{other_side}
 use Rattle.step_kinds.specs.declared.names.Side.{Side}
 use Rattle.bridge_pair.specs.Bridge.{Bridge, pages_of, with_pages}
-use Rattle.bridge_pair.proofs.Promises.{grows_nothing}
+use Rattle.bridge_pair.proofs.Facade.{grows_nothing}
 use Rattle.plan_model.specs.DeclaredPlans.{SizesFit}
 use Rattle.ring_geometry.specs.Geometry.{max_payload_of}
 use Rattle.bridge_pair.specs.Pages.{PagesGrow}

@@ -6,7 +6,7 @@ use Rattle.ring_geometry.specs.Geometry.{max_payload_of}
 use Rattle.step_kinds.specs.Sides.{other_side}
 use Rattle.bridge_pair.specs.Bridge.{pages_of}
 use Rattle.bridge_pair.specs.Pages.{PagesGrow}
-use Rattle.bridge_pair.proofs.Sides.{pages_again}
+use Rattle.bridge_pair.proofs.Facade.{pages_again}
 use Rattle.frame_ring.specs.Outgoing.{entry_at}
 use Rattle.frame_ring.specs.Promises.{TouchesEntries}
 use Rattle.frame_ring.specs.Rings.{QueueOf}
