@@ -91,7 +91,12 @@ impl Sums {
     // Before any turn.
     fn new() -> Sums {
         Sums {
-            of: [AtomicU64::new(0), AtomicU64::new(0), AtomicU64::new(0), AtomicU64::new(0)],
+            of: [
+                AtomicU64::new(0),
+                AtomicU64::new(0),
+                AtomicU64::new(0),
+                AtomicU64::new(0),
+            ],
         }
     }
 

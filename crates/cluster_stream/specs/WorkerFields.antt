@@ -52,14 +52,14 @@ pub record IsSink (w : sink.Inside) : Type 0 where
   pub told : (length w.acks.part.sent ≤ w.told) × (w.told ≤ length w.receiver.items)
 
 -- of the workers on the lane of items and on that of acknowledgements
-abbrev pub pair_key : WorkerKey → WorkerKey → PairKey
-pair_key items acks = record { workers = record { items = items.worker; acks = acks.worker }; lane = items.lane; ack_lane = acks.lane }
+abbrev pub key_of_both : WorkerKey → WorkerKey → PairKey
+key_of_both items acks = record { workers = record { items = items.worker; acks = acks.worker }; lane = items.lane; ack_lane = acks.lane }
 
 abbrev pub moving_of : moving.Inside → MovingShown
-moving_of w = record { key = pair_key w.items.key w.acks.key; tries = w.items.tries; loads = w.items.loads }
+moving_of w = record { key = key_of_both w.items.key w.acks.key; tries = w.items.tries; loads = w.items.loads }
 
 abbrev pub cutting_of : cutting.Inside → CuttingShown
-cutting_of w = record { key = pair_key w.items.key w.acks.key; cut = w.items.cut }
+cutting_of w = record { key = key_of_both w.items.key w.acks.key; cut = w.items.cut }
 
 -- both lanes are cut, or none
 abbrev pub IsCutting : cutting.Inside → Type 0

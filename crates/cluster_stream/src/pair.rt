@@ -1,7 +1,7 @@
 //! The workers that move frames on both lanes of a stream, and those that cut both.
 
 ghost use Rattle.std.specs.Prelude.{◌≡◌, ◌+◌, ◌≤◌, true, false};
-ghost use Rattle.cluster_stream.specs.WorkerFields.{pair_key};
+ghost use Rattle.cluster_stream.specs.WorkerFields.{key_of_both};
 ghost use Rattle.cluster_stream.specs.Workers.{LetsBoth};
 
 use cluster_run::workers::{Cutting, Moving};
@@ -22,7 +22,7 @@ const ACK_TURNS: u32 = 16;
 impl PairMoving {
     /// The workers of a new session.
     pub(crate) fn new(items: Moving, acks: Moving) -> PairMoving
-        ensures { result ≡ record { key = pair_key items.key acks.key; tries = items.tries; loads = items.loads } }
+        ensures { result ≡ record { key = key_of_both items.key acks.key; tries = items.tries; loads = items.loads } }
     {
         PairMoving { items, acks }
     }
@@ -77,7 +77,7 @@ impl PairCutting {
     /// The workers of a new session, in which the link isn't cut.
     pub(crate) fn new(items: Cutting, acks: Cutting) -> PairCutting
         requires { (items.cut ≡ false) × (acks.cut ≡ false) }
-        ensures { result ≡ record { key = pair_key items.key acks.key; cut = false } }
+        ensures { result ≡ record { key = key_of_both items.key acks.key; cut = false } }
     {
         PairCutting { items, acks }
     }

@@ -1,5 +1,5 @@
 -- Where `explore` ends with status 0, the text of all outcomes of a plan was written.
-use Rattle.std.proofs.Common.{◌≡◌, ℕ, Bool, true, false, Some, Option, Result, Ok, Err, List, length, nat_lt, inl, inr, refl, sym, subst, arith}
+use Rattle.std.proofs.Common.{◌≡◌, ℕ, Bool, true, false, Option, Result, Ok, Err, List, length, nat_lt, inl, inr, refl, sym, subst, arith}
 use Rattle.std.specs.Prelude.{MatchBool}
 use Rattle.step_kinds.specs.Limits.{most_script_bytes}
 use Rattle.step_kinds.specs.declared.plan.Plan.{Plan}
@@ -14,11 +14,9 @@ use Rattle.replay_command.specs.Replays.{steps_of}
 use Rattle.script_text.specs.Script.{script_of}
 use Rattle.script_words.specs.declared.fault.ScriptFault.{ScriptFault}
 use Rattle.ntb_top.specs.Answers.{IsAnswerTo}
-use Rattle.ntb_top.specs.Commands.{command_of}
 use Rattle.ntb_top.specs.Laws.{ExplorationsAreTrue}
 use Rattle.ntb_top.specs.Runs.{Outside}
 use Rattle.ntb_top.specs.declared.command.Command.{Command}
-use Rattle.ntb_top.specs.declared.command.Command.TheVariants.{Explore}
 
 -- with status 0 the input wasn't too long
 not_long : (long : Bool) (bytes : List ℕ) (output : Output) → MatchBool long (output ≡ too_long) (IsExploreOf bytes output) → output.status ≡ 0 → IsExploreOf bytes output
