@@ -26,7 +26,7 @@ most_stream_workers = 8 * most_lanes
 abbrev pub LetsBoth : (ℕ → ℕ → Type 0) → PairWorkers → Type 0
 LetsBoth lets workers = LetsWorker lets workers.items × LetsWorker lets workers.acks
 
--- the gate lets the four workers of each lane pass
+-- the gate that lets these pass lets all workers pass up to the four of each lane, which begin with these
 abbrev pub LetsSession : (ℕ → ℕ → Type 0) → PairWorkers → Type 0
 LetsSession lets first = LetsWorkers lets (first.items + 4) × LetsWorkers lets (first.acks + 4)
 
