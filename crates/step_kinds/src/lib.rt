@@ -12,6 +12,7 @@ mod items;
 mod lanes;
 pub mod limits;
 mod names;
+mod places;
 mod plan;
 mod runs;
 mod steps;
@@ -22,8 +23,9 @@ pub use in_place::InPlace;
 pub use items::Items;
 pub use lanes::{Begun, LaneCopy};
 pub use names::{LaneName, Name, Side};
+pub use places::{BridgeStep, QueueStep, SideStep, StepPlace, SwitchStep};
 pub use plan::{
     Counters, DevPlan, Line, LineAnswer, PairPlan, Plan, SidePlan, SwitchPlan, Traffic,
 };
 pub use runs::{LaneRun, RunRecord, SessionRun};
-pub use steps::{Answer, Label, Step, StepPlace};
+pub use steps::{Answer, Label, Step};

@@ -1,7 +1,6 @@
 //! Posted writes by their labels, the steps of a script and their answers.
 
 ghost use Rattle.std.specs.Prelude.{◌≡◌};
-ghost use Rattle.step_kinds.specs.Places.{step_place};
 ghost use Rattle.step_kinds.specs.Subject.{subject_of};
 
 use crate::frame::Frame;
@@ -246,19 +245,6 @@ pub enum Step {
     },
 }
 
-/// The part of its pair that a step touches.
-#[derive(Clone, Copy, Debug)]
-pub enum StepPlace {
-    /// One queue of a side, and the bridge.
-    OnQueue { side: Side, queue: u32 },
-    /// All queues of a side, and the bridge.
-    OnSide { side: Side },
-    /// The bridge alone.
-    OnBridge,
-    /// No part of a pair: a switch makes the step, above all pairs.
-    OnSwitch,
-}
-
 impl Step {
     /// The number of the pair that the step is made on.
     pub fn subject(&self) -> u32
@@ -294,45 +280,6 @@ impl Step {
             | Step::ShowQueue { pair, .. }
             | Step::Relay { pair, .. }
             | Step::Xnext { pair, .. } => *pair,
-        }
-    }
-
-    /// The part of its pair that the step touches.
-    pub fn place(&self) -> StepPlace
-        ensures { result ≡ step_place self.now }
-    {
-        match self {
-            Step::Begin { side, queue, .. }
-            | Step::QpDown { side, queue, .. }
-            | Step::Xbegin { side, queue, .. }
-            | Step::Post { side, queue, .. }
-            | Step::Look { side, queue, .. }
-            | Step::Copy { side, queue, .. }
-            | Step::Clear { side, queue, .. }
-            | Step::Ack { side, queue, .. }
-            | Step::Wake { side, queue, .. } => StepPlace::OnQueue {
-                side: *side,
-                queue: *queue,
-            },
-            Step::Clean { side, .. } => StepPlace::OnSide { side: *side },
-            Step::Enable { .. }
-            | Step::Train { .. }
-            | Step::Break { .. }
-            | Step::DropDone { .. }
-            | Step::Offer { .. }
-            | Step::Check { .. }
-            | Step::Ready { .. }
-            | Step::Join { .. }
-            | Step::Land { .. }
-            | Step::Irq { .. }
-            | Step::Mask { .. }
-            | Step::Unmask { .. }
-            | Step::Spad { .. }
-            | Step::Poke { .. }
-            | Step::ShowMem { .. }
-            | Step::ShowPad { .. }
-            | Step::ShowQueue { .. } => StepPlace::OnBridge,
-            Step::Relay { .. } | Step::Xnext { .. } => StepPlace::OnSwitch,
         }
     }
 }
