@@ -4,17 +4,15 @@ use Rattle.step_kinds.specs.Sides.{other_side}
 use Rattle.step_kinds.specs.declared.names.Side.{Side}
 use Rattle.step_kinds.specs.declared.names.Side.TheVariants.{A, B}
 use Rattle.step_kinds.specs.declared.steps.Answer.{Answer}
-use Rattle.step_kinds.specs.declared.steps.Step.{Step}
+use Rattle.step_kinds.specs.declared.places.BridgeStep.{BridgeStep}
 use Rattle.plan_model.specs.Plans.{side_plan}
 use Rattle.bridge_pair.specs.Bridge.{Bridge}
 use Rattle.fabric_rule.specs.Parts.{PairState, QueuePart, no_queue, plain_pair, with_bridge}
 use Rattle.fabric_core.specs.Parts.{IsWhole, KeepsPort}
 use Rattle.fabric_core.specs.Promises.{HasMorePages}
-use Rattle.step_kinds.specs.declared.steps.StepPlace.TheVariants.{OnBridge}
 use Rattle.fabric_core.proofs.TurnsOfPairs.{more_plain, more_promised, turn_promised}
 use Rattle.fabric_core.proofs.Whole.{SideIsWhole, both_whole, peer_kept, side_turned, side_whole, whole_kept}
 use Rattle.fabric_rule.specs.Turns.{bridge_turn}
-use Rattle.step_kinds.specs.Places.{step_place}
 
 abbrev pub state_of : Bridge → List QueuePart → List QueuePart → PairState
 state_of bridge a b = record { bridge = bridge; queues = record { a = a; b = b } }
@@ -22,13 +20,13 @@ state_of bridge a b = record { bridge = bridge; queues = record { a = a; b = b }
 -- On the bridge
 
 -- A pair stays whole where a step leaves the turn's bridge, or out of memory the old one, with further pages.
-pub stepped_whole : {E : Type 0} (state : PairState) (new : Bridge) (step : Step) (result : Result Answer E) → step_place step ≡ OnBridge → IsWhole state
+pub stepped_whole : {E : Type 0} (state : PairState) (new : Bridge) (step : BridgeStep) (result : Result Answer E) → IsWhole state
     → OnOk result (HasMorePages (bridge_turn state.bridge step).bridge new) → OnErr result (HasMorePages state.bridge new) → IsWhole (with_bridge state new)
-stepped_whole state new step (Ok answer) there whole after err = whole_kept state new whole (turn_promised state.bridge new step there after)
-stepped_whole state new step (Err e) there whole after err = whole_kept state new whole (more_promised state.bridge new err)
+stepped_whole state new step (Ok answer) whole after err = whole_kept state new whole (turn_promised state.bridge new step after)
+stepped_whole state new step (Err e) whole after err = whole_kept state new whole (more_promised state.bridge new err)
 
 -- Where a step on the bridge is made, the pair is as the step's turn leaves it, promises aside.
-pub stepped_after : {E : Type 0} (state : PairState) (new : Bridge) (step : Step) (result : Result Answer E) → OnOk result (HasMorePages (bridge_turn state.bridge step).bridge new)
+pub stepped_after : {E : Type 0} (state : PairState) (new : Bridge) (step : BridgeStep) (result : Result Answer E) → OnOk result (HasMorePages (bridge_turn state.bridge step).bridge new)
     → OnOk result (plain_pair (with_bridge state new) ≡ plain_pair (with_bridge state (bridge_turn state.bridge step).bridge))
 stepped_after state new step (Ok answer) after =
     ap (λ bridge. record state { bridge = bridge }) (more_plain (bridge_turn state.bridge step).bridge new after)

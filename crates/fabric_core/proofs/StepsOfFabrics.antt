@@ -42,7 +42,7 @@ use Rattle.fabric_core.specs.declared.fabric.Fabric.TheInside.{Inside}
 use Rattle.fabric_core.proofs.RefusedMoves.{refused_left}
 use Rattle.fabric_core.specs.Lawful.{IsLawful}
 use Rattle.fabric_core.specs.FabricStep.{HasStepped}
-use Rattle.fabric_core.specs.Wants.{MayWant, counters_at}
+use Rattle.fabric_core.specs.Wants.{MayWant}
 use Rattle.fabric_core.specs.LogClauses.{HasMade, IsAnswered, IsLikely, log_after}
 use Rattle.fabric_rule.specs.Moves.{move_of}
 
@@ -186,23 +186,23 @@ queue_there plan k side queue bridge is may = subst (λ (pair : PairPlan). queue
 
 -- A permitted step finds all that it needs of its bridge, where queues are joined and sides come up only if all fits.
 pub can_make : (plan : Plan) (step : Step) (bridge : Bridge) → IsDeclared plan → bridge.plan ≡ pair_plan plan (subject_of step) → Agrees bridge → IsPermitted plan step → CanMake plan.devs bridge step
-can_make plan (Check p side) bridge declared is agree may = record { place = tt; queue = tt; bridge = agree.up side }
-can_make plan (Ready p side queue) bridge declared is agree may = record { place = tt; queue = tt; bridge = queue_there plan p side queue bridge is may }
-can_make plan (Join p side queue) bridge declared is agree may = record { place = tt; queue = tt; bridge = queue_there plan p side queue bridge is may }
-can_make plan (Begin p side queue frame) bridge declared is agree may = record { place = queue_there plan p side queue bridge is may.0; queue = may.1.0; bridge = tt }
-can_make plan (QpDown p side queue) bridge declared is agree may = record { place = queue_there plan p side queue bridge is may; queue = tt; bridge = tt }
-can_make plan (Xbegin p side queue dev dst kind payload) bridge declared is agree may = record { place = queue_there plan p side queue bridge is may.0; queue = (may.1.declared, (declared.devices dev may.1.declared).address, may.2); bridge = tt }
-can_make plan (Post p side queue) bridge declared is agree may = record { place = queue_there plan p side queue bridge is may; queue = tt; bridge = tt }
-can_make plan (Look p side queue) bridge declared is agree may = record { place = queue_there plan p side queue bridge is may; queue = tt; bridge = tt }
-can_make plan (Copy p side queue) bridge declared is agree may = record { place = queue_there plan p side queue bridge is may; queue = tt; bridge = tt }
-can_make plan (Clear p side queue) bridge declared is agree may = record { place = queue_there plan p side queue bridge is may; queue = tt; bridge = tt }
-can_make plan (Ack p side queue) bridge declared is agree may = record { place = queue_there plan p side queue bridge is may; queue = tt; bridge = tt }
-can_make plan (Wake p side queue dev) bridge declared is agree may = record { place = queue_there plan p side queue bridge is may.0; queue = tt; bridge = tt }
-can_make plan (Spad p side i value) bridge declared is agree may = record { place = tt; queue = tt; bridge = may.1.among }
-can_make plan (Poke p side window offset bytes) bridge declared is agree may = record { place = tt; queue = tt; bridge = subst (λ (pair : PairPlan). IsPoke pair side window offset bytes) (sym is) may.1 }
-can_make plan (ShowMem p side at len) bridge declared is agree may = record { place = tt; queue = tt; bridge = subst (λ (pair : PairPlan). IsShown (side_plan pair side) at len) (sym is) may.1 }
-can_make plan (ShowPad p side i) bridge declared is agree may = record { place = tt; queue = tt; bridge = may.1 }
-can_make plan step bridge declared is agree may = record { place = tt; queue = tt; bridge = tt }
+can_make plan (Check p side) bridge declared is agree may = agree.up side
+can_make plan (Ready p side queue) bridge declared is agree may = queue_there plan p side queue bridge is may
+can_make plan (Join p side queue) bridge declared is agree may = queue_there plan p side queue bridge is may
+can_make plan (Begin p side queue frame) bridge declared is agree may = (queue_there plan p side queue bridge is may.0, may.1.0)
+can_make plan (QpDown p side queue) bridge declared is agree may = (queue_there plan p side queue bridge is may, tt)
+can_make plan (Xbegin p side queue dev dst kind payload) bridge declared is agree may = (queue_there plan p side queue bridge is may.0, (may.1.declared, (declared.devices dev may.1.declared).address, may.2))
+can_make plan (Post p side queue) bridge declared is agree may = (queue_there plan p side queue bridge is may, tt)
+can_make plan (Look p side queue) bridge declared is agree may = (queue_there plan p side queue bridge is may, tt)
+can_make plan (Copy p side queue) bridge declared is agree may = (queue_there plan p side queue bridge is may, tt)
+can_make plan (Clear p side queue) bridge declared is agree may = (queue_there plan p side queue bridge is may, tt)
+can_make plan (Ack p side queue) bridge declared is agree may = (queue_there plan p side queue bridge is may, tt)
+can_make plan (Wake p side queue dev) bridge declared is agree may = (queue_there plan p side queue bridge is may.0, tt)
+can_make plan (Spad p side i value) bridge declared is agree may = may.1.among
+can_make plan (Poke p side window offset bytes) bridge declared is agree may = subst (λ (pair : PairPlan). IsPoke pair side window offset bytes) (sym is) may.1
+can_make plan (ShowMem p side at len) bridge declared is agree may = subst (λ (pair : PairPlan). IsShown (side_plan pair side) at len) (sym is) may.1
+can_make plan (ShowPad p side i) bridge declared is agree may = may.1
+can_make plan step bridge declared is agree may = tt
 
 -- One step more
 
@@ -343,7 +343,7 @@ pub record PairMoved {E : Type 0} (devs : List DevPlan) (step : Step) (old new :
   pub answer : IfOk result (λ answer. answer ≡ (move_of devs old step).answer)
   pub after : OnOk result (plain_pair new ≡ plain_pair (move_of devs old step).after)
   pub err : OnErr result (plain_pair new ≡ plain_pair old)
-  pub border : OnErr result (MayWant (counters_at old step) step (move_of devs old step).answer)
+  pub border : OnErr result (MayWant old step (move_of devs old step).answer)
 
 -- it stands for some steps still
 

@@ -7,7 +7,11 @@ use Rattle.step_kinds.specs.declared.plan.DevPlan.{DevPlan}
 use Rattle.step_kinds.specs.declared.steps.Answer.{Answer}
 use Rattle.step_kinds.specs.declared.steps.Label.TheVariants.{Raw}
 use Rattle.step_kinds.specs.declared.steps.Step.{Step}
-use Rattle.step_kinds.specs.declared.steps.Step.TheVariants.{Enable, Train, Break, DropDone, Clean, Offer, Check, Ready, Join, Post, Land, Clear, Ack, Irq, Mask, Unmask, Spad, Poke}
+use Rattle.step_kinds.specs.declared.places.BridgeStep.{BridgeStep}
+use Rattle.step_kinds.specs.declared.places.BridgeStep.TheVariants.{Enable, Train, Break, DropDone, Offer, Check, Ready, Join, Land, Irq, Mask, Unmask, Spad, Poke}
+use Rattle.step_kinds.specs.declared.places.QueueStep.TheVariants.{Begin, Xbegin}
+use Rattle.step_kinds.specs.declared.places.StepPlace.{StepPlace}
+use Rattle.step_kinds.specs.declared.places.StepPlace.TheVariants.{OnQueue, OnBridge}
 use Rattle.plan_model.specs.Link.{is_up}
 use Rattle.plan_model.specs.Pads.{links_pad, pad_index}
 use Rattle.bridge_pair.specs.Bridge.{Bridge, book_of, flight_of, with_book, with_bytes}
@@ -28,17 +32,21 @@ use Rattle.hand_shake.specs.declared.ReadyAnswer.{ReadyAnswer}
 use Rattle.hand_shake.specs.declared.ReadyAnswer.TheVariants.{Ok as IsReady}
 use Rattle.fabric_rule.specs.Parts.{PairState, plain_bridge, plain_pair}
 use Rattle.fabric_core.specs.Promises.{HasMorePages, KeepsPromised, with_promised}
-use Rattle.step_kinds.specs.declared.steps.StepPlace.{StepPlace}
-use Rattle.step_kinds.specs.declared.steps.StepPlace.TheVariants.{OnBridge}
 use Rattle.fabric_rule.specs.Moves.{Move, move_at, move_of}
 use Rattle.fabric_rule.specs.Turns.{bridge_turn, posted_aside}
-use Rattle.step_kinds.specs.Places.{step_place}
+use Rattle.step_kinds.specs.Places.{by_value, step_place}
 
 -- Where a step is made
 
+moved_by_value : (devs : List DevPlan) (pair : PairState) (place : StepPlace) → move_at devs pair (by_value place) ≡ move_at devs pair place
+moved_by_value devs pair (OnQueue side queue (Begin frame)) = refl
+moved_by_value devs pair (OnQueue side queue (Xbegin dev dst kind payload)) = refl
+moved_by_value devs pair (OnBridge (Poke side window offset bytes)) = refl
+moved_by_value devs pair place = refl
+
 -- What a step makes of a pair is a turn at its place: of one queue, of a side that is cleaned, or of the bridge.
-pub made_there : (devs : List DevPlan) (pair : PairState) (step : Step) (place : StepPlace) → place ≡ step_place step → move_of devs pair step ≡ move_at devs pair step place
-made_there devs pair step place is = ap (move_at devs pair step) (sym is)
+pub made_there : (devs : List DevPlan) (pair : PairState) (step : Step) (place : StepPlace) → by_value place ≡ step_place step → move_of devs pair step ≡ move_at devs pair place
+made_there devs pair step place is = ap (move_at devs pair) (sym is) ∙ moved_by_value devs pair place
 
 -- what a move answers and what it leaves, if it is another that was made
 pub answered : {E : Type 0} (result : Result Answer E) (move made : Move) → move ≡ made → IfOk result (λ answer. answer ≡ made.answer) → IfOk result (λ answer. answer ≡ move.answer)
@@ -98,26 +106,22 @@ aside_keeps bridge side write = at_test (is_up bridge.link.state) where
   at_test true = posted_keeps bridge side write
   at_test false = keeps_all bridge
 
-turn_keeps : (bridge : Bridge) (step : Step) → step_place step ≡ OnBridge → KeepsPromises bridge (bridge_turn bridge step).bridge
-turn_keeps bridge (Enable p side) there = link_steps_keep_promises.enable bridge side
-turn_keeps bridge (Train p) there = link_steps_keep_promises.train bridge
-turn_keeps bridge (Break p) there = link_steps_keep_promises.cut bridge
-turn_keeps bridge (DropDone p) there = link_steps_keep_promises.drop_done bridge
-turn_keeps bridge (Offer p side) there = offer_keeps bridge side (offer_answer bridge side)
-turn_keeps bridge (Check p side) there = check_keeps bridge side (check_answer bridge side)
-turn_keeps bridge (Ready p side queue) there = ready_keeps bridge side queue (ready_answer bridge side queue)
-turn_keeps bridge (Join p side queue) there = join_keeps bridge side queue (join_answer bridge side queue)
-turn_keeps bridge (Land p side place) there = landing_keeps_promises bridge side place
-turn_keeps bridge (Irq p side) there = own_writes_keep_promises.bells bridge side _
-turn_keeps bridge (Mask p side bits) there = own_writes_keep_promises.bells bridge side _
-turn_keeps bridge (Unmask p side bits) there = own_writes_keep_promises.bells bridge side _
-turn_keeps bridge (Spad p side i value) there = aside_keeps bridge side (pad_write i value)
-turn_keeps bridge (Poke p side window offset bytes) there = aside_keeps bridge side (memory_write (Raw window offset (length bytes)) window offset bytes)
-turn_keeps bridge (Clean p side) there = absurd (cc there)
-turn_keeps bridge (Post p side queue) there = absurd (cc there)
-turn_keeps bridge (Clear p side queue) there = absurd (cc there)
-turn_keeps bridge (Ack p side queue) there = absurd (cc there)
-turn_keeps bridge step there = keeps_all bridge
+turn_keeps : (bridge : Bridge) (step : BridgeStep) → KeepsPromises bridge (bridge_turn bridge step).bridge
+turn_keeps bridge (Enable side) = link_steps_keep_promises.enable bridge side
+turn_keeps bridge Train = link_steps_keep_promises.train bridge
+turn_keeps bridge Break = link_steps_keep_promises.cut bridge
+turn_keeps bridge DropDone = link_steps_keep_promises.drop_done bridge
+turn_keeps bridge (Offer side) = offer_keeps bridge side (offer_answer bridge side)
+turn_keeps bridge (Check side) = check_keeps bridge side (check_answer bridge side)
+turn_keeps bridge (Ready side queue) = ready_keeps bridge side queue (ready_answer bridge side queue)
+turn_keeps bridge (Join side queue) = join_keeps bridge side queue (join_answer bridge side queue)
+turn_keeps bridge (Land side place) = landing_keeps_promises bridge side place
+turn_keeps bridge (Irq side) = own_writes_keep_promises.bells bridge side _
+turn_keeps bridge (Mask side bits) = own_writes_keep_promises.bells bridge side _
+turn_keeps bridge (Unmask side bits) = own_writes_keep_promises.bells bridge side _
+turn_keeps bridge (Spad side i value) = aside_keeps bridge side (pad_write i value)
+turn_keeps bridge (Poke side window offset bytes) = aside_keeps bridge side (memory_write (Raw window offset (length bytes.now)) window offset bytes.now)
+turn_keeps bridge step = keeps_all bridge
 
 -- and further pages may be promised
 
@@ -144,9 +148,9 @@ pub more_plain : (old new : Bridge) → HasMorePages old new → plain_bridge ne
 more_plain old new more = ap plain_bridge more.rest
 
 -- A step on the bridge, with further pages promised, keeps the plan, all promised pages and each side's room.
-pub turn_promised : (old new : Bridge) (step : Step) → step_place step ≡ OnBridge → HasMorePages (bridge_turn old step).bridge new → KeepsPromised old new
-turn_promised old new step there more =
-    kept_twice old (bridge_turn old step).bridge new (still old (bridge_turn old step).bridge (turn_keeps old step there)) (more_keeps (bridge_turn old step).bridge new more)
+pub turn_promised : (old new : Bridge) (step : BridgeStep) → HasMorePages (bridge_turn old step).bridge new → KeepsPromised old new
+turn_promised old new step more =
+    kept_twice old (bridge_turn old step).bridge new (still old (bridge_turn old step).bridge (turn_keeps old step)) (more_keeps (bridge_turn old step).bridge new more)
 
 -- A bridge that has further pages promised keeps its plan, all promised pages and each side's room.
 pub more_promised : (old new : Bridge) → HasMorePages old new → KeepsPromised old new

@@ -1,53 +1,66 @@
--- Where a step may be out of memory, by where it is made.
-use Rattle.std.proofs.Common.{◌≡◌, ℕ, true, List, Result, Ok, Err, OnErr, refl, subst, sym}
-use Rattle.step_kinds.specs.declared.names.Side.{Side}
-use Rattle.step_kinds.specs.declared.steps.Answer.{Answer}
-use Rattle.step_kinds.specs.declared.steps.Step.{Step}
-use Rattle.step_kinds.specs.declared.steps.Step.TheVariants.{Xbegin}
-use Rattle.step_kinds.specs.declared.steps.Answer.TheVariants.{OkNumber, ReadyFrame}
+-- What a step needs and where it may be out of memory, by where it is made.
+use Rattle.std.proofs.Common.{◌≡◌, ◌∙◌, ℕ, true, IsErr, List, Result, Ok, Err, OnErr, ap, refl, subst, sym}
+use Rattle.std.proofs.lemmas.Bool.{false≢true}
+use Rattle.step_kinds.specs.Places.{by_value, step_place}
+use Rattle.step_kinds.specs.declared.places.BridgeStep.{BridgeStep}
+use Rattle.step_kinds.specs.declared.places.BridgeStep.TheVariants.{Poke}
+use Rattle.step_kinds.specs.declared.places.QueueStep.TheVariants.{Begin, Xbegin}
+use Rattle.step_kinds.specs.declared.places.StepPlace.{StepPlace}
+use Rattle.step_kinds.specs.declared.places.StepPlace.TheVariants.{OnQueue, OnBridge}
 use Rattle.step_kinds.specs.declared.plan.DevPlan.{DevPlan}
+use Rattle.step_kinds.specs.declared.steps.Answer.{Answer}
+use Rattle.step_kinds.specs.declared.steps.Answer.TheVariants.{OkNumber, ReadyFrame}
+use Rattle.step_kinds.specs.declared.steps.Step.{Step}
+use Rattle.bridge_pair.specs.Bridge.{Bridge}
 use Rattle.ledger_laws.specs.Laws.{is_made}
-use Rattle.fabric_rule.specs.Parts.{PairState, queue_of}
-use Rattle.fabric_core.specs.QueueCalls.{IsBegun, IsBegunOrUncounted, IsFound}
-use Rattle.fabric_core.specs.Wants.{MayWant, counters_at}
-use Rattle.step_kinds.specs.declared.steps.StepPlace.TheVariants.{OnQueue, OnBridge}
+use Rattle.fabric_rule.specs.Moves.{Move, move_at, move_of}
+use Rattle.fabric_rule.specs.Parts.{PairState}
+use Rattle.fabric_core.specs.Fabric.{may_want_memory, wants_memory_at}
+use Rattle.fabric_core.specs.Parts.{CanMake, CanMakeAt}
+use Rattle.fabric_core.specs.QueueCalls.{IsBegun, IsFound}
+use Rattle.fabric_core.specs.Wants.{MayWant, MayWantAt}
 use Rattle.fabric_core.proofs.TurnsOfPairs.{made_there}
-use Rattle.fabric_rule.specs.Moves.{Move, move_of}
-use Rattle.fabric_rule.specs.Turns.{bridge_turn, queue_turn}
-use Rattle.step_kinds.specs.Places.{step_place}
 
 -- what holds where there was no memory, holds by what follows from it
 pub err_map : {X E P Q : Type 0} (result : Result X E) → (P → Q) → OnErr result P → OnErr result Q
 err_map (Ok x) f p = tt
 err_map (Err e) f p = f p
 
--- the counters of the queue that a step names are those of its device
-pub wants_on_queue : (pair : PairState) (step : Step) (side : Side) (queue : ℕ) (answer : Answer) → OnQueue side queue ≡ step_place step
-    → MayWant (queue_of pair side queue).counters step answer → MayWant (counters_at pair step) step answer
-wants_on_queue pair (Xbegin k own number dev dst kind payload) side queue answer there wants =
-    let sides : side ≡ own = cc there in
-    let queues : queue ≡ number = cc there in
-    subst (λ (queue : ℕ). IsBegunOrUncounted (queue_of pair own queue).counters answer) queues
-    (subst (λ (side : Side). IsBegunOrUncounted (queue_of pair side queue).counters answer) sides wants)
-wants_on_queue pair step side queue answer there wants = wants
+-- A step needs at its place what it needs.
+pub needed_there : (devs : List DevPlan) (bridge : Bridge) (step : Step) (place : StepPlace) → by_value place ≡ step_place step → CanMake devs bridge step → CanMakeAt devs bridge place
+needed_there devs bridge step place is can = by_cases place (subst (CanMakeAt devs bridge) (sym is) can) where
+  by_cases : (place : StepPlace) → CanMakeAt devs bridge (by_value place) → CanMakeAt devs bridge place
+  by_cases (OnQueue side queue (Begin frame)) can = can
+  by_cases (OnQueue side queue (Xbegin dev dst kind payload)) can = can
+  by_cases (OnBridge (Poke side window offset bytes)) can = can
+  by_cases place can = can
 
--- a step on the bridge alone is no device's begin
-pub wants_aside : (pair : PairState) (step : Step) (answer : Answer) → OnBridge ≡ step_place step → is_made answer ≡ true → MayWant (counters_at pair step) step answer
-wants_aside pair (Xbegin k own number dev dst kind payload) answer there made = absurd (cc there)
-wants_aside pair step answer there made = made
+-- A step may be out of memory at an answer where its place may.
+pub wants_there : {E : Type 0} (result : Result Answer E) (devs : List DevPlan) (pair : PairState) (step : Step) (place : StepPlace) → by_value place ≡ step_place step
+    → OnErr result (MayWantAt pair place (move_at devs pair place).answer) → OnErr result (MayWant pair step (move_of devs pair step).answer)
+wants_there result devs pair step place is =
+    err_map result
+    (λ wants. subst (λ (move : Move). MayWant pair step move.answer) (sym (made_there devs pair step place is))
+    (subst (λ (place : StepPlace). MayWantAt pair place answer) is (by_cases place wants)))
+  where
+    answer : Answer
+    answer = (move_at devs pair place).answer
 
--- a step on a queue may be out of memory where its move may
-pub queue_wants : {E : Type 0} (result : Result Answer E) (devs : List DevPlan) (pair : PairState) (step : Step) (side : Side) (queue : ℕ) → OnQueue side queue ≡ step_place step
-    → OnErr result (MayWant (queue_of pair side queue).counters step (queue_turn devs (queue_of pair side queue) pair.bridge step).answer)
-    → OnErr result (MayWant (counters_at pair step) step (move_of devs pair step).answer)
-queue_wants result devs pair step side queue there =
-    err_map result (λ wants. subst (λ (move : Move). MayWant (counters_at pair step) step move.answer) (sym (made_there devs pair step (OnQueue side queue) there)) (wants_on_queue pair step side queue _ there wants))
+    by_cases : (place : StepPlace) → MayWantAt pair place answer → MayWantAt pair (by_value place) answer
+    by_cases (OnQueue side queue (Begin frame)) wants = wants
+    by_cases (OnQueue side queue (Xbegin dev dst kind payload)) wants = wants
+    by_cases (OnBridge (Poke side window offset bytes)) wants = wants
+    by_cases place wants = wants
 
--- and so may a step on the bridge
-pub bridge_wants : {E : Type 0} (result : Result Answer E) (devs : List DevPlan) (pair : PairState) (step : Step) → OnBridge ≡ step_place step
-    → OnErr result (is_made (bridge_turn pair.bridge step).answer ≡ true) → OnErr result (MayWant (counters_at pair step) step (move_of devs pair step).answer)
-bridge_wants result devs pair step there =
-    err_map result (λ made. subst (λ (move : Move). MayWant (counters_at pair step) step move.answer) (sym (made_there devs pair step OnBridge there)) (wants_aside pair step _ there made))
+-- A step may be out of memory where its place may.
+pub memory_there : {X E : Type 0} (result : Result X E) (step : Step) (place : StepPlace) → by_value place ≡ step_place step
+    → (IsErr result → wants_memory_at place ≡ true) → IsErr result → may_want_memory step ≡ true
+memory_there result step place is wants failed = ap wants_memory_at (sym is) ∙ by_cases place ∙ wants failed where
+  by_cases : (place : StepPlace) → wants_memory_at (by_value place) ≡ wants_memory_at place
+  by_cases (OnQueue side queue (Begin frame)) = refl
+  by_cases (OnQueue side queue (Xbegin dev dst kind payload)) = refl
+  by_cases (OnBridge (Poke side window offset bytes)) = refl
+  by_cases place = refl
 
 -- a begin that is answered with a number was made, and so was a link-down entry
 pub begin_made : (answer : Answer) → IsBegun answer → is_made answer ≡ true

@@ -2,9 +2,15 @@
 use Rattle.std.specs.Prelude.{◌≡◌, ℕ, ◌<◌, Bool, true, false, List, [], length, map, slice_index_or}
 use Rattle.step_kinds.specs.declared.names.LaneName.{LaneName}
 use Rattle.step_kinds.specs.declared.plan.DevPlan.{DevPlan}
+use Rattle.step_kinds.specs.declared.places.BridgeStep.{BridgeStep}
+use Rattle.step_kinds.specs.declared.places.BridgeStep.TheVariants.{Offer, Check, Ready, Spad, Poke, ShowMem}
+use Rattle.step_kinds.specs.declared.places.QueueStep.{QueueStep}
+use Rattle.step_kinds.specs.declared.places.QueueStep.TheVariants.{Begin, Xbegin, QpDown, Look}
+use Rattle.step_kinds.specs.declared.places.StepPlace.{StepPlace}
+use Rattle.step_kinds.specs.declared.places.StepPlace.TheVariants.{OnQueue, OnBridge}
 use Rattle.step_kinds.specs.declared.plan.Plan.{Plan}
 use Rattle.step_kinds.specs.declared.steps.Step.{Step}
-use Rattle.step_kinds.specs.declared.steps.Step.TheVariants.{Offer, Check, Ready, Begin, Xbegin, QpDown, Look, Spad, Poke, ShowMem}
+use Rattle.step_kinds.specs.Places.{step_place}
 use Rattle.step_kinds.specs.Sides.{other_side}
 use Rattle.plan_model.specs.Plans.{no_pair, pair_plan}
 use Rattle.memory_model.specs.Memory.{site_of}
@@ -39,18 +45,29 @@ pub record StandsFor (plan : Plan) (steps : List Step) (fabric : FabricState) : 
   pub pairs : (k : ℕ) → k < length plan.pairs → PairStands plan.devs (pair_plan plan k) k (site_of plan k steps) (pair_of fabric k)
 
 -- the steps that may answer out of memory: they post, promise or hand out bytes
+abbrev pub queue_wants_memory : QueueStep → Bool
+queue_wants_memory (Begin frame) = true
+queue_wants_memory (Xbegin dev dst kind payload) = true
+queue_wants_memory QpDown = true
+queue_wants_memory Look = true
+queue_wants_memory step = false
+
+abbrev pub bridge_wants_memory : BridgeStep → Bool
+bridge_wants_memory (Offer side) = true
+bridge_wants_memory (Check side) = true
+bridge_wants_memory (Ready side queue) = true
+bridge_wants_memory (Spad side i value) = true
+bridge_wants_memory (Poke side window offset bytes) = true
+bridge_wants_memory (ShowMem side at len) = true
+bridge_wants_memory step = false
+
+abbrev pub wants_memory_at : StepPlace → Bool
+wants_memory_at (OnQueue side queue step) = queue_wants_memory step
+wants_memory_at (OnBridge step) = bridge_wants_memory step
+wants_memory_at place = false
+
 abbrev pub may_want_memory : Step → Bool
-may_want_memory (Offer pair side) = true
-may_want_memory (Check pair side) = true
-may_want_memory (Ready pair side queue) = true
-may_want_memory (Begin pair side queue frame) = true
-may_want_memory (Xbegin pair side queue dev dst kind payload) = true
-may_want_memory (QpDown pair side queue) = true
-may_want_memory (Look pair side queue) = true
-may_want_memory (Spad pair side i value) = true
-may_want_memory (Poke pair side window offset bytes) = true
-may_want_memory (ShowMem pair side at len) = true
-may_want_memory step = false
+may_want_memory step = wants_memory_at (step_place step)
 
 -- the frames of a lane in a session that were accepted and delivered, by what the fabric keeps
 abbrev pub accepted_of : FabricState → LaneName → ℕ → ℕ

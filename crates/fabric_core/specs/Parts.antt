@@ -6,8 +6,11 @@ use Rattle.step_kinds.specs.Sides.{other_side}
 use Rattle.step_kinds.specs.declared.names.Side.{Side}
 use Rattle.step_kinds.specs.declared.plan.DevPlan.{DevPlan}
 use Rattle.step_kinds.specs.declared.plan.PairPlan.{PairPlan}
+use Rattle.step_kinds.specs.declared.places.QueueStep.{QueueStep}
+use Rattle.step_kinds.specs.declared.places.QueueStep.TheVariants.{Begin, Xbegin}
+use Rattle.step_kinds.specs.declared.places.StepPlace.{StepPlace}
+use Rattle.step_kinds.specs.declared.places.StepPlace.TheVariants.{OnQueue, OnBridge}
 use Rattle.step_kinds.specs.declared.steps.Step.{Step}
-use Rattle.step_kinds.specs.declared.steps.Step.TheVariants.{Begin, Xbegin}
 use Rattle.bridge_pair.specs.Bridge.{Bridge, book_of, flight_of, pages_of, with_flight}
 use Rattle.plan_numbers.specs.Memories.{WindowsFit}
 use Rattle.frame_ring.specs.Port.{PortState, unused_of}
@@ -22,8 +25,6 @@ use Rattle.fabric_rule.specs.Parts.{PairState, QueuePart, no_queue, queue_of, qu
 use Rattle.fabric_rule.specs.Laws.{IsFreshQueue}
 use Rattle.fabric_rule.specs.StandsFor.{IsOn}
 use Rattle.fabric_core.specs.Promises.{CanTurn}
-use Rattle.step_kinds.specs.declared.steps.StepPlace.{StepPlace}
-use Rattle.step_kinds.specs.declared.steps.StepPlace.TheVariants.{OnQueue}
 use Rattle.step_kinds.specs.Places.{step_place}
 
 -- a queue before any step, whose device has these limits
@@ -38,9 +39,9 @@ fresh_part plan side queue stop start =
     }
 
 -- what a step on a queue needs of what it carries
-abbrev pub CanTurnQueue : List DevPlan → Step → Type 0
-CanTurnQueue devs (Begin p side queue frame) = 0 < length frame
-CanTurnQueue devs (Xbegin p side queue dev dst kind payload) = (dev < length devs) × (length (dev_plan devs dev).address ≡ 6) × IsPayload dst kind payload
+abbrev pub CanTurnQueue : List DevPlan → QueueStep → Type 0
+CanTurnQueue devs (Begin frame) = 0 < length frame.now
+CanTurnQueue devs (Xbegin dev dst kind payload) = (dev < length devs) × (length (dev_plan devs dev).address ≡ 6) × IsPayload dst.now kind payload.now
 CanTurnQueue devs step = Unit {0}
 
 -- What a call of a port keeps: its own promises are there still, the room grows and shrinks with what it hasn't used, no page that
@@ -77,15 +78,14 @@ pub record Agrees (bridge : Bridge) : Type 0 where
   pub joined : (side : Side) (queue : ℕ) → has_bit (book_of bridge side).joined queue ≡ true → FitsRings bridge.plan
   pub up : (side : Side) → check_answer bridge side ≡ Up → WindowsFit bridge.plan side
 
--- what a step needs, wherever it is made
-abbrev pub HasPlace : Bridge → StepPlace → Type 0
-HasPlace bridge (OnQueue side queue) = queue < (side_plan bridge.plan side).queues
-HasPlace bridge place = Unit {0}
+-- what a step needs at its place
+abbrev pub CanMakeAt : List DevPlan → Bridge → StepPlace → Type 0
+CanMakeAt devs bridge (OnQueue side queue step) = (queue < (side_plan bridge.plan side).queues) × CanTurnQueue devs step
+CanMakeAt devs bridge (OnBridge step) = CanTurn bridge step
+CanMakeAt devs bridge place = Unit {0}
 
-pub record CanMake (devs : List DevPlan) (before : Bridge) (step : Step) : Type 0 where
-  pub place : HasPlace before (step_place step)
-  pub queue : CanTurnQueue devs step
-  pub bridge : CanTurn before step
+abbrev pub CanMake : List DevPlan → Bridge → Step → Type 0
+CanMake devs bridge step = CanMakeAt devs bridge (step_place step)
 
 -- no two devices of the pair are on one queue
 abbrev pub AreAlone : List DevPlan → ℕ → Type 0

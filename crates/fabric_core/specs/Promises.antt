@@ -1,8 +1,8 @@
 -- What is promised of a bridge stays so through steps, and a bridge that differs in promised pages alone.
 use Rattle.std.specs.Prelude.{◌≡◌, ℕ, ◌<◌, Contains, List}
 use Rattle.step_kinds.specs.declared.names.Side.{Side}
-use Rattle.step_kinds.specs.declared.steps.Step.{Step}
-use Rattle.step_kinds.specs.declared.steps.Step.TheVariants.{Ready, Join, Check, Spad, Poke, ShowMem, ShowPad}
+use Rattle.step_kinds.specs.declared.places.BridgeStep.{BridgeStep}
+use Rattle.step_kinds.specs.declared.places.BridgeStep.TheVariants.{Ready, Join, Check, Spad, Poke, ShowMem, ShowPad}
 use Rattle.plan_model.specs.DeclaredPlans.{IsPoke, IsShown}
 use Rattle.plan_model.specs.Plans.{side_plan}
 use Rattle.bridge_pair.specs.Bridge.{Bridge, pages_of, flight_of}
@@ -27,12 +27,12 @@ pub record HasMorePages (old new : Bridge) : Type 0 where
   pub stay : (side : Side) (page : ℕ) → Contains (pages_of old side) page → Contains (pages_of new side) page
 
 -- what a step on the bridge needs of its numbers, and where a side would come up, of the plan
-abbrev pub CanTurn : Bridge → Step → Type 0
-CanTurn bridge (Check p side) = check_answer bridge side ≡ Up → WindowsFit bridge.plan side
-CanTurn bridge (Ready p side queue) = queue < (side_plan bridge.plan side).queues
-CanTurn bridge (Join p side queue) = queue < (side_plan bridge.plan side).queues
-CanTurn bridge (Spad p side i value) = i < 16
-CanTurn bridge (Poke p side window offset bytes) = IsPoke bridge.plan side window offset bytes
-CanTurn bridge (ShowMem p side at len) = IsShown (side_plan bridge.plan side) at len
-CanTurn bridge (ShowPad p side i) = i < 16
+abbrev pub CanTurn : Bridge → BridgeStep → Type 0
+CanTurn bridge (Check side) = check_answer bridge side ≡ Up → WindowsFit bridge.plan side
+CanTurn bridge (Ready side queue) = queue < (side_plan bridge.plan side).queues
+CanTurn bridge (Join side queue) = queue < (side_plan bridge.plan side).queues
+CanTurn bridge (Spad side i value) = i < 16
+CanTurn bridge (Poke side window offset bytes) = IsPoke bridge.plan side window offset bytes.now
+CanTurn bridge (ShowMem side at len) = IsShown (side_plan bridge.plan side) at len
+CanTurn bridge (ShowPad side i) = i < 16
 CanTurn bridge step = Unit {0}

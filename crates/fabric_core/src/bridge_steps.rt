@@ -8,9 +8,8 @@ ghost use Rattle.bridge_pair.specs.Flights.{Flying, Translates, arrival_of};
 ghost use Rattle.bridge_pair.specs.Links.{after_train};
 ghost use Rattle.bridge_pair.specs.Writes.{memory_write, pad_write};
 ghost use Rattle.bridge_regs.specs.Doorbell.{with_masked};
-ghost use Rattle.fabric_core.specs.Fabric.{may_want_memory};
+ghost use Rattle.fabric_core.specs.Fabric.{bridge_wants_memory};
 ghost use Rattle.fabric_core.specs.Promises.{CanTurn, HasMorePages};
-ghost use Rattle.step_kinds.specs.declared.steps.StepPlace.TheVariants.{OnBridge};
 ghost use Rattle.fabric_rule.specs.Answers.{of_link};
 ghost use Rattle.hand_shake.specs.Offers.{with_posted};
 ghost use Rattle.ledger_laws.specs.Laws.{is_made};
@@ -22,7 +21,6 @@ ghost use Rattle.step_kinds.specs.Sides.{other_side};
 ghost use Rattle.step_kinds.specs.declared.steps.Answer.TheVariants as answer;
 ghost use Rattle.step_kinds.specs.declared.steps.Label.TheVariants.{Raw as RawLabel};
 ghost use Rattle.fabric_rule.specs.Turns.{bridge_turn, posted_aside};
-ghost use Rattle.step_kinds.specs.Places.{step_place};
 
 use crate::answers::{
     check_answer, join_answer, land_answer, link_answer, offer_answer, ready_answer, refusal_answer,
@@ -33,7 +31,7 @@ use link_state::LinkState;
 use plan_numbers::own_address;
 use queue_pair::irq;
 use std::alloc::{AllocError, Global};
-use step_kinds::{Answer, Frame, Label, Side, Step};
+use step_kinds::{Answer, BridgeStep, Frame, Label, Side};
 
 /// Makes a step on the bridge and answers it.
 ///
@@ -41,60 +39,41 @@ use step_kinds::{Answer, Frame, Label, Side, Step};
 ///
 /// [`AllocError`] from out of memory alone. Further pages may then be promised, and nothing else changes.
 #[inline(always)]
-pub fn bridge_step(pair: &mut Pair, alloc: Global, step: &Step) -> Result<Answer, AllocError>
-    requires place { step_place step.now ≡ OnBridge }
-    requires can { CanTurn pair.old step.now }
-    ensures answer { IfOk result (λ answer. answer ≡ (bridge_turn pair.old step.now).answer) }
-    ensures after { OnOk result (HasMorePages (bridge_turn pair.old step.now).bridge pair.new) }
+pub fn bridge_step(pair: &mut Pair, alloc: Global, step: BridgeStep) -> Result<Answer, AllocError>
+    requires { CanTurn pair.old step }
+    ensures answer { IfOk result (λ answer. answer ≡ (bridge_turn pair.old step.entry).answer) }
+    ensures after { OnOk result (HasMorePages (bridge_turn pair.old step.entry).bridge pair.new) }
     ensures err { OnErr result (HasMorePages pair.old pair.new) }
-    ensures wants { IsErr result → may_want_memory step.now ≡ true }
-    ensures border { OnErr result (is_made (bridge_turn pair.old step.now).answer ≡ true) }
+    ensures wants { IsErr result → bridge_wants_memory step.entry ≡ true }
+    ensures border { OnErr result (is_made (bridge_turn pair.old step.entry).answer ≡ true) }
 {
     match step {
-        Step::Enable { side, .. } => Ok(link_answer(pair.enable(*side))),
-        Step::Train { .. } => Ok(train(pair)),
-        Step::Break { .. } => Ok(link_answer(pair.cut())),
-        Step::DropDone { .. } => Ok(link_answer(pair.drop_done())),
-        Step::Offer { side, .. } => Ok(offer_answer(offer(pair, *side)?)),
-        Step::Check { side, .. } => Ok(check_answer(check(pair, *side)?)),
-        Step::Ready { side, queue, .. } => Ok(ready_answer(ready(pair, *side, *queue)?)),
-        Step::Join { side, queue, .. } => Ok(join_answer(join(pair, *side, *queue))),
-        Step::Land { side, place, .. } => Ok(land_answer(pair.land(*side, *place as usize))),
-        Step::Irq { side, .. } => Ok(Answer::Irq {
-            bits: irq(pair, *side),
+        BridgeStep::Enable { side } => Ok(link_answer(pair.enable(side))),
+        BridgeStep::Train => Ok(train(pair)),
+        BridgeStep::Break => Ok(link_answer(pair.cut())),
+        BridgeStep::DropDone => Ok(link_answer(pair.drop_done())),
+        BridgeStep::Offer { side } => Ok(offer_answer(offer(pair, side)?)),
+        BridgeStep::Check { side } => Ok(check_answer(check(pair, side)?)),
+        BridgeStep::Ready { side, queue } => Ok(ready_answer(ready(pair, side, queue)?)),
+        BridgeStep::Join { side, queue } => Ok(join_answer(join(pair, side, queue))),
+        BridgeStep::Land { side, place } => Ok(land_answer(pair.land(side, place as usize))),
+        BridgeStep::Irq { side } => Ok(Answer::Irq {
+            bits: irq(pair, side),
         }),
-        Step::Mask { side, bits, .. } => Ok(mask(pair, *side, *bits)),
-        Step::Unmask { side, bits, .. } => Ok(unmask(pair, *side, *bits)),
-        Step::Spad {
-            side,
-            index,
-            value,
-            ..
-        } => spad(pair, *side, *index, *value),
-        Step::Poke {
+        BridgeStep::Mask { side, bits } => Ok(mask(pair, side, bits)),
+        BridgeStep::Unmask { side, bits } => Ok(unmask(pair, side, bits)),
+        BridgeStep::Spad { side, index, value } => spad(pair, side, index, value),
+        BridgeStep::Poke {
             side,
             window,
             offset,
             bytes,
-            ..
-        } => poke(pair, *side, *window, *offset, bytes),
-        Step::ShowMem { side, at, len, .. } => shown_memory(pair, alloc, *side, *at, *len),
-        Step::ShowPad { side, index, .. } => Ok(Answer::PadValue {
-            value: pair.pad(*side, *index),
+        } => poke(pair, side, window, offset, bytes),
+        BridgeStep::ShowMem { side, at, len } => shown_memory(pair, alloc, side, at, len),
+        BridgeStep::ShowPad { side, index } => Ok(Answer::PadValue {
+            value: pair.pad(side, index),
         }),
-        Step::ShowQueue { side, place, .. } => Ok(shown_queue(pair, *side, *place)),
-        Step::Clean { .. }
-        | Step::Begin { .. }
-        | Step::QpDown { .. }
-        | Step::Xbegin { .. }
-        | Step::Post { .. }
-        | Step::Look { .. }
-        | Step::Copy { .. }
-        | Step::Clear { .. }
-        | Step::Ack { .. }
-        | Step::Wake { .. }
-        | Step::Relay { .. }
-        | Step::Xnext { .. } => unreachable!(),
+        BridgeStep::ShowQueue { side, place } => Ok(shown_queue(pair, side, place)),
     }
 }
 

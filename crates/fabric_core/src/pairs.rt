@@ -2,13 +2,12 @@
 
 ghost use Rattle.std.specs.Prelude.{IfOk, IsErr, IsTrue, OnErr, OnOk, length, map, slice_index_or, slice_set, true, ◌++◌, ◌<◌, ◌↔◌, ◌≡◌};
 ghost use Rattle.bridge_pair.specs.Bridge.{flight_of, pages_of};
-ghost use Rattle.fabric_core.specs.Fabric.{may_want_memory};
+ghost use Rattle.fabric_core.specs.Fabric.{bridge_wants_memory, may_want_memory, queue_wants_memory};
 ghost use Rattle.fabric_core.specs.InFlight.{pair_key, pair_key_without};
 ghost use Rattle.fabric_core.specs.Parts.{Agrees, AreAlone, AreFreshQueues, AreLimitsOn, CanForget, CanMake, CanTurnQueue, HasOtherRoom, KeepsPort};
 ghost use Rattle.fabric_core.specs.Promises.{CanTurn};
 ghost use Rattle.fabric_core.specs.Same.{AreOfOneSide, AreSameParts, HasSameQueues, IsSamePair, LandsAsPair};
-ghost use Rattle.fabric_core.specs.Wants.{MayWant, counters_at};
-ghost use Rattle.step_kinds.specs.declared.steps.StepPlace.TheVariants.{OnBridge};
+ghost use Rattle.fabric_core.specs.Wants.{MayWant, MayWantOnQueue};
 ghost use Rattle.ledger_laws.specs.Laws.{is_made};
 ghost use Rattle.fabric_rule.specs.Laws.{IsFreshPair};
 ghost use Rattle.fabric_rule.specs.Parts.{no_queue, plain_bridge, plain_pair, queue_of};
@@ -18,7 +17,6 @@ ghost use Rattle.plan_model.specs.Plans.{side_plan as side_plan_of};
 ghost use Rattle.queue_pair.specs.Gates.{is_joined};
 ghost use Rattle.step_kinds.specs.declared.names.Side.TheVariants.{A, B};
 ghost use Rattle.fabric_rule.specs.Turns.{bridge_turn, queue_turn};
-ghost use Rattle.step_kinds.specs.Places.{step_place};
 ghost use Rattle.fabric_rule.specs.Moves.{bridge_turned, clean_move, forgotten_queue, move_of, turned};
 
 use crate::answers::refusal_answer;
@@ -29,7 +27,7 @@ use bridge_pair::Pair;
 use plan_numbers::side_plan;
 use std::alloc::{AllocError, Global};
 use std::marker::Model;
-use step_kinds::{Answer, DevPlan, PairPlan, Side, Step, StepPlace};
+use step_kinds::{Answer, BridgeStep, DevPlan, PairPlan, QueueStep, Side, SideStep, Step, StepPlace};
 
 /// A pair in bytes with the queues of its two sides. Contracts see both.
 #[derive(Drop)]
@@ -77,26 +75,28 @@ impl PairBox {
         ensures after { OnOk result (plain_pair self.new ≡ plain_pair (move_of devs.now self.old step.now).after) }
         ensures err { OnErr result (plain_pair self.new ≡ plain_pair self.old) }
         ensures wants { IsErr result → may_want_memory step.now ≡ true }
-        ensures border { OnErr result (MayWant (counters_at self.old step.now) step.now (move_of devs.now self.old step.now).answer) }
+        ensures border { OnErr result (MayWant self.old step.now (move_of devs.now self.old step.now).answer) }
     {
         match step.place() {
-            StepPlace::OnQueue { side, queue } => self.queue_step(side, queue, devs, step),
-            StepPlace::OnSide { side } => Ok(self.clean(side)),
-            StepPlace::OnBridge => self.step_aside(step),
-            StepPlace::OnSwitch => Ok(Answer::Ok),
+            StepPlace::OnQueue { side, queue, step } => self.queue_step(side, queue, devs, step),
+            StepPlace::OnSide {
+                side,
+                step: SideStep::Clean,
+            } => Ok(self.clean(side)),
+            StepPlace::OnBridge { step } => self.step_aside(step),
+            StepPlace::OnSwitch { .. } => Ok(Answer::Ok),
         }
     }
 
     // Makes a step on the bridge alone.
     #[inline(always)]
-    fn step_aside(&mut self, step: &Step) -> Result<Answer, AllocError>
-        requires place { step_place step.now ≡ OnBridge }
-        requires can { CanTurn self.old.bridge step.now }
-        ensures answer { IfOk result (λ answer. answer ≡ (bridge_turn self.old.bridge step.now).answer) }
-        ensures after { OnOk result (plain_pair self.new ≡ plain_pair (bridge_turned self.old (bridge_turn self.old.bridge step.now)).after) }
+    fn step_aside(&mut self, step: BridgeStep) -> Result<Answer, AllocError>
+        requires { CanTurn self.old.bridge step }
+        ensures answer { IfOk result (λ answer. answer ≡ (bridge_turn self.old.bridge step.entry).answer) }
+        ensures after { OnOk result (plain_pair self.new ≡ plain_pair (bridge_turned self.old (bridge_turn self.old.bridge step.entry)).after) }
         ensures err { OnErr result (plain_pair self.new ≡ plain_pair self.old) }
-        ensures wants { IsErr result → may_want_memory step.now ≡ true }
-        ensures border { OnErr result (is_made (bridge_turn self.old.bridge step.now).answer ≡ true) }
+        ensures wants { IsErr result → bridge_wants_memory step.entry ≡ true }
+        ensures border { OnErr result (is_made (bridge_turn self.old.bridge step.entry).answer ≡ true) }
     {
         let alloc = self.alloc;
         bridge_step(&mut self.pair, alloc, step)
@@ -109,16 +109,16 @@ impl PairBox {
         side: Side,
         queue: u32,
         devs: &[DevPlan],
-        step: &Step,
+        step: QueueStep,
     ) -> Result<Answer, AllocError>
         requires agrees { Agrees self.old.bridge }
         requires among { queue < (side_plan_of self.old.bridge.plan side).queues }
-        requires can { CanTurnQueue devs.now step.now }
-        ensures answer { IfOk result (λ answer. answer ≡ (queue_turn devs.now (queue_of self.old side queue) self.old.bridge step.now).answer) }
-        ensures after { OnOk result (plain_pair self.new ≡ plain_pair (turned self.old side queue (queue_turn devs.now (queue_of self.old side queue) self.old.bridge step.now)).after) }
+        requires can { CanTurnQueue devs.now step }
+        ensures answer { IfOk result (λ answer. answer ≡ (queue_turn devs.now (queue_of self.old side queue) self.old.bridge step.entry).answer) }
+        ensures after { OnOk result (plain_pair self.new ≡ plain_pair (turned self.old side queue (queue_turn devs.now (queue_of self.old side queue) self.old.bridge step.entry)).after) }
         ensures err { OnErr result (plain_pair self.new ≡ plain_pair self.old) }
-        ensures wants { IsErr result → may_want_memory step.now ≡ true }
-        ensures border { OnErr result (MayWant (queue_of self.old side queue).counters step.now (queue_turn devs.now (queue_of self.old side queue) self.old.bridge step.now).answer) }
+        ensures wants { IsErr result → queue_wants_memory step.entry ≡ true }
+        ensures border { OnErr result (MayWantOnQueue (queue_of self.old side queue).counters step.entry (queue_turn devs.now (queue_of self.old side queue) self.old.bridge step.entry).answer) }
     {
         let alloc = self.alloc;
         match side {
@@ -271,23 +271,23 @@ fn make_at(
     alloc: Global,
     queue: u32,
     devs: &[DevPlan],
-    step: &Step,
+    step: QueueStep,
 ) -> Result<Answer, AllocError>
     requires among { queue < length queues.old.items }
     requires plan { pair.old.plan ≡ (slice_index_or queues.old.items queue no_queue).queue.port.plan }
     requires fits { is_joined (slice_index_or queues.old.items queue no_queue).queue pair.old ≡ true → FitsRings (slice_index_or queues.old.items queue no_queue).queue.port.plan }
     requires room { HasRoomIn (slice_index_or queues.old.items queue no_queue).queue.port pair.old }
     requires pages { HasPagesIn (slice_index_or queues.old.items queue no_queue).queue.port pair.old }
-    requires step { CanTurnQueue devs.now step.now }
-    ensures answer { IfOk result (λ answer. answer ≡ (queue_turn devs.now (slice_index_or queues.old.items queue no_queue) pair.old step.now).answer) }
+    requires step { CanTurnQueue devs.now step }
+    ensures answer { IfOk result (λ answer. answer ≡ (queue_turn devs.now (slice_index_or queues.old.items queue no_queue) pair.old step.entry).answer) }
     ensures queues { queues.new.items ≡ slice_set queues.old.items queue (slice_index_or queues.new.items queue no_queue) }
-    ensures after { OnOk result (slice_index_or queues.new.items queue no_queue ≡ (queue_turn devs.now (slice_index_or queues.old.items queue no_queue) pair.old step.now).part) }
-    ensures bridge { OnOk result (plain_bridge pair.new ≡ plain_bridge (queue_turn devs.now (slice_index_or queues.old.items queue no_queue) pair.old step.now).bridge) }
+    ensures after { OnOk result (slice_index_or queues.new.items queue no_queue ≡ (queue_turn devs.now (slice_index_or queues.old.items queue no_queue) pair.old step.entry).part) }
+    ensures bridge { OnOk result (plain_bridge pair.new ≡ plain_bridge (queue_turn devs.now (slice_index_or queues.old.items queue no_queue) pair.old step.entry).bridge) }
     ensures err { OnErr result (queues.new.items ≡ queues.old.items) }
     ensures err_bridge { OnErr result (plain_bridge pair.new ≡ plain_bridge pair.old) }
     ensures keeps { KeepsPort (slice_index_or queues.old.items queue no_queue).queue.port (slice_index_or queues.new.items queue no_queue).queue.port pair.old pair.new }
-    ensures wants { IsErr result → may_want_memory step.now ≡ true }
-    ensures border { OnErr result (MayWant (slice_index_or queues.old.items queue no_queue).counters step.now (queue_turn devs.now (slice_index_or queues.old.items queue no_queue) pair.old step.now).answer) }
+    ensures wants { IsErr result → queue_wants_memory step.entry ≡ true }
+    ensures border { OnErr result (MayWantOnQueue (slice_index_or queues.old.items queue no_queue).counters step.entry (queue_turn devs.now (slice_index_or queues.old.items queue no_queue) pair.old step.entry).answer) }
 {
     let part = &mut queues[queue as usize];
     part.make(pair, alloc, devs, step)

@@ -2,11 +2,11 @@
 
 ghost use Rattle.std.specs.Prelude.{IfOk, IsErr, IsTrue, OnErr, OnOk, length, true, ◌<◌, ◌↔◌, ◌≡◌, ◌≤◌};
 ghost use Rattle.fabric_core.specs.Numbers.{HasRoomToSend, most_count};
-ghost use Rattle.fabric_core.specs.Fabric.{may_want_memory};
+ghost use Rattle.fabric_core.specs.Fabric.{queue_wants_memory};
 ghost use Rattle.fabric_core.specs.Parts.{CanTurnQueue, KeepsPort, fresh_part};
 ghost use Rattle.fabric_core.specs.QueueCalls.{CanBegin, CanPost, HasTurned, HasTurnedUnlessWanting, IsBegun, IsBegunOrUncounted, IsFound, counted_begun, refused_once};
 ghost use Rattle.fabric_core.specs.Same.{AreOfOnePlace, IsSamePart};
-ghost use Rattle.fabric_core.specs.Wants.{MayWant};
+ghost use Rattle.fabric_core.specs.Wants.{MayWantOnQueue};
 ghost use Rattle.plan_model.specs.Ethernet.{ethernet_frame};
 ghost use Rattle.fabric_rule.specs.Parts.{count_in, plain_bridge};
 ghost use Rattle.frame_ring.specs.Calls.{free_answer, reset_by};
@@ -31,7 +31,7 @@ use net_dev::{Flow, Header, encode};
 use queue_pair::{BeginAnswer, LookAnswer, QueuePair};
 use std::alloc::{AllocError, Global};
 use std::marker::Model;
-use step_kinds::{Answer, Counters, DevPlan, Frame, LaneCopy, PairPlan, Side, Step};
+use step_kinds::{Answer, Counters, DevPlan, Frame, LaneCopy, PairPlan, QueueStep, Side};
 
 /// One queue of one side: its queue pair, the flow of the device on it, and what is counted. Contracts see them as a record.
 #[derive(Drop)]
@@ -70,7 +70,7 @@ impl QueueBox {
         })
     }
 
-    /// Makes a step on the queue and answers it. A step that is made elsewhere changes nothing here.
+    /// Makes a step on the queue and answers it.
     ///
     /// # Errors
     ///
@@ -82,66 +82,45 @@ impl QueueBox {
         pair: &mut Pair,
         alloc: Global,
         devs: &[DevPlan],
-        step: &Step,
+        step: QueueStep,
     ) -> Result<Answer, AllocError>
         requires plan { pair.old.plan ≡ self.old.queue.port.plan }
         requires fits { is_joined self.old.queue pair.old ≡ true → FitsRings self.old.queue.port.plan }
         requires room { HasRoomIn self.old.queue.port pair.old }
         requires pages { HasPagesIn self.old.queue.port pair.old }
-        requires step { CanTurnQueue devs.now step.now }
-        ensures answer { IfOk result (λ answer. answer ≡ (queue_turn devs.now self.old pair.old step.now).answer) }
-        ensures after { OnOk result (self.new ≡ (queue_turn devs.now self.old pair.old step.now).part) }
-        ensures bridge { OnOk result (plain_bridge pair.new ≡ plain_bridge (queue_turn devs.now self.old pair.old step.now).bridge) }
+        requires step { CanTurnQueue devs.now step }
+        ensures answer { IfOk result (λ answer. answer ≡ (queue_turn devs.now self.old pair.old step.entry).answer) }
+        ensures after { OnOk result (self.new ≡ (queue_turn devs.now self.old pair.old step.entry).part) }
+        ensures bridge { OnOk result (plain_bridge pair.new ≡ plain_bridge (queue_turn devs.now self.old pair.old step.entry).bridge) }
         ensures err { OnErr result (self.new ≡ self.old) }
         ensures err_bridge { OnErr result (plain_bridge pair.new ≡ plain_bridge pair.old) }
         ensures keeps { KeepsPort self.old.queue.port self.new.queue.port pair.old pair.new }
-        ensures wants { IsErr result → may_want_memory step.now ≡ true }
-        ensures border { OnErr result (MayWant self.old.counters step.now (queue_turn devs.now self.old pair.old step.now).answer) }
+        ensures wants { IsErr result → queue_wants_memory step.entry ≡ true }
+        ensures border { OnErr result (MayWantOnQueue self.old.counters step.entry (queue_turn devs.now self.old pair.old step.entry).answer) }
     {
         match step {
-            Step::Begin { frame, .. } => self.begin(pair, alloc, frame),
-            Step::QpDown { .. } => self.qpdown(pair),
-            Step::Xbegin {
+            QueueStep::Begin { frame } => self.begin(pair, alloc, frame),
+            QueueStep::QpDown => self.qpdown(pair),
+            QueueStep::Xbegin {
                 dev,
                 dst,
                 kind,
                 payload,
-                ..
             } => {
-                let src = devs[*dev as usize].address;
+                let src = devs[dev as usize].address;
                 let header = Header {
                     dst: *dst,
                     src,
-                    kind: *kind,
+                    kind,
                 };
                 self.xbegin(pair, alloc, header, payload)
             }
-            Step::Post { .. } => Ok(self.post(pair)),
-            Step::Look { .. } => self.look(pair),
-            Step::Copy { .. } => Ok(self.copy(pair)),
-            Step::Clear { .. } => Ok(self.clear(pair)),
-            Step::Ack { .. } => Ok(self.ack(pair)),
-            Step::Wake { .. } => Ok(self.wake(pair)),
-            Step::Enable { .. }
-            | Step::Train { .. }
-            | Step::Break { .. }
-            | Step::DropDone { .. }
-            | Step::Clean { .. }
-            | Step::Offer { .. }
-            | Step::Check { .. }
-            | Step::Ready { .. }
-            | Step::Join { .. }
-            | Step::Land { .. }
-            | Step::Irq { .. }
-            | Step::Mask { .. }
-            | Step::Unmask { .. }
-            | Step::Spad { .. }
-            | Step::Poke { .. }
-            | Step::ShowMem { .. }
-            | Step::ShowPad { .. }
-            | Step::ShowQueue { .. }
-            | Step::Relay { .. }
-            | Step::Xnext { .. } => Ok(Answer::Ok),
+            QueueStep::Post => Ok(self.post(pair)),
+            QueueStep::Look => self.look(pair),
+            QueueStep::Copy => Ok(self.copy(pair)),
+            QueueStep::Clear => Ok(self.clear(pair)),
+            QueueStep::Ack => Ok(self.ack(pair)),
+            QueueStep::Wake { .. } => Ok(self.wake(pair)),
         }
     }
 

@@ -1,5 +1,5 @@
 -- The answers of a pair's parts in the words of a script.
-use Rattle.std.specs.Prelude.{ℕ, Bool, true, Option, Some, None}
+use Rattle.std.specs.Prelude.{ℕ, Bool, true, false, Option, Some, None}
 use Rattle.step_kinds.specs.declared.lanes.LaneCopy.{LaneCopy}
 use Rattle.step_kinds.specs.declared.lanes.LaneCopy.TheVariants.{Part, Whole, OutOfTurn as NotCopying}
 use Rattle.step_kinds.specs.declared.steps.Answer.{Answer}
@@ -7,6 +7,7 @@ use Rattle.step_kinds.specs.declared.steps.Answer.TheVariants as answer
 use Rattle.step_kinds.specs.declared.steps.Label.{Label}
 use Rattle.plan_model.specs.declared.LinkRefusal.{LinkRefusal}
 use Rattle.plan_model.specs.declared.LinkRefusal.TheVariants.{NotDown, Dirty, NotEnabled, NotUp, NotClosing, SessionsSpent}
+use Rattle.plan_model.specs.Refusals.{Test, OfLink, OfJoined, OfClosed, OfLength, OfBusy, OfDevice, in_begin_order}
 use Rattle.posted_queue.specs.declared.LandAnswer.{LandAnswer}
 use Rattle.posted_queue.specs.declared.LandAnswer.TheVariants.{Landed, Blocked, Nothing}
 use Rattle.hand_shake.specs.declared.OfferAnswer.{OfferAnswer}
@@ -74,11 +75,30 @@ of_begin (begin.TooLong len most) = answer.TooLong len most
 of_begin begin.Busy = answer.Busy
 of_begin (begin.NoRoom head tail) = answer.Again head tail
 
--- of a device's frame: a stopped device refuses before the ring's room is tested (`in_begin_order`)
+-- how each test refuses a stopped device's frame, of a begin that is answered so on the queue
+abbrev pub refuses_stopped : BeginAnswer → Test → Answer → Answer
+refuses_stopped begin.LinkDown OfLink otherwise = answer.LinkDown
+refuses_stopped begin.NotReady OfJoined otherwise = answer.NotReady
+refuses_stopped begin.Closed OfClosed otherwise = answer.Closed
+refuses_stopped (begin.TooLong len most) OfLength otherwise = answer.TooLong len most
+refuses_stopped begin.Busy OfBusy otherwise = answer.Busy
+refuses_stopped begun OfDevice otherwise = answer.Stopped
+refuses_stopped begun test otherwise = otherwise
+
+-- the first of them that refuses, case by case, so that it is one answer for each
+abbrev pub of_stopped : BeginAnswer → Answer
+of_stopped (begin.Ok number) = in_begin_order (refuses_stopped (begin.Ok number)) (answer.OkNumber number)
+of_stopped begin.LinkDown = in_begin_order (refuses_stopped begin.LinkDown) answer.LinkDown
+of_stopped begin.NotReady = in_begin_order (refuses_stopped begin.NotReady) answer.NotReady
+of_stopped begin.Closed = in_begin_order (refuses_stopped begin.Closed) answer.Closed
+of_stopped (begin.TooLong len most) = in_begin_order (refuses_stopped (begin.TooLong len most)) (answer.TooLong len most)
+of_stopped begin.Busy = in_begin_order (refuses_stopped begin.Busy) answer.Busy
+of_stopped (begin.NoRoom head tail) = in_begin_order (refuses_stopped (begin.NoRoom head tail)) (answer.Again head tail)
+
+-- of a device's frame
 abbrev pub of_xbegin : Bool → BeginAnswer → Answer
-of_xbegin true (begin.Ok number) = answer.Stopped
-of_xbegin true (begin.NoRoom head tail) = answer.Stopped
-of_xbegin stopped begun = of_begin begun
+of_xbegin true begun = of_stopped begun
+of_xbegin false begun = of_begin begun
 
 abbrev pub of_post : Option Label → Answer
 of_post None = answer.Idle

@@ -7,8 +7,9 @@ use Rattle.step_kinds.specs.declared.plan.DevPlan.{DevPlan}
 use Rattle.step_kinds.specs.declared.steps.Answer.{Answer}
 use Rattle.step_kinds.specs.declared.steps.Answer.TheVariants.{Ok as Done}
 use Rattle.step_kinds.specs.declared.steps.Step.{Step}
-use Rattle.step_kinds.specs.declared.steps.StepPlace.{StepPlace}
-use Rattle.step_kinds.specs.declared.steps.StepPlace.TheVariants.{OnQueue, OnSide, OnBridge, OnSwitch}
+use Rattle.step_kinds.specs.declared.places.SideStep.TheVariants.{Clean}
+use Rattle.step_kinds.specs.declared.places.StepPlace.{StepPlace}
+use Rattle.step_kinds.specs.declared.places.StepPlace.TheVariants.{OnQueue, OnSide, OnBridge, OnSwitch}
 use Rattle.plan_model.specs.Link.{clean_refusal}
 use Rattle.plan_model.specs.declared.LinkRefusal.{LinkRefusal}
 use Rattle.bridge_pair.specs.Links.{after_clean}
@@ -46,12 +47,12 @@ bridge_turned pair turn = record { answer = turn.answer; after = with_bridge pai
 abbrev pub turned : PairState → Side → ℕ → QueueTurn → Move
 turned pair side queue turn = record { answer = turn.answer; after = with_bridge (with_queue pair side queue turn.part) turn.bridge }
 
--- what a step does that touches this part of its pair; a switch's step is made by no pair
-abbrev pub move_at : List DevPlan → PairState → Step → StepPlace → Move
-move_at devs pair step (OnQueue side queue) = turned pair side queue (queue_turn devs (queue_of pair side queue) pair.bridge step)
-move_at devs pair step (OnSide side) = clean_move pair side
-move_at devs pair step OnBridge = bridge_turned pair (bridge_turn pair.bridge step)
-move_at devs pair step OnSwitch = record { answer = Done; after = pair }
+-- what a step does to its pair at this place; a switch's step is made by no pair
+abbrev pub move_at : List DevPlan → PairState → StepPlace → Move
+move_at devs pair (OnQueue side queue step) = turned pair side queue (queue_turn devs (queue_of pair side queue) pair.bridge step)
+move_at devs pair (OnSide side Clean) = clean_move pair side
+move_at devs pair (OnBridge step) = bridge_turned pair (bridge_turn pair.bridge step)
+move_at devs pair (OnSwitch step) = record { answer = Done; after = pair }
 
 abbrev pub move_of : List DevPlan → PairState → Step → Move
-move_of devs pair step = move_at devs pair step (step_place step)
+move_of devs pair step = move_at devs pair (step_place step)

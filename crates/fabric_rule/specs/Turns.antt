@@ -9,8 +9,10 @@ use Rattle.step_kinds.specs.declared.lanes.LaneCopy.TheVariants.{Whole}
 use Rattle.step_kinds.specs.declared.steps.Answer.{Answer}
 use Rattle.step_kinds.specs.declared.steps.Answer.TheVariants.{Ok as Done, OkSession, OkNumber, Stopped, Awake, Irq as IrqBits, Mem, PadValue, QueueShown}
 use Rattle.step_kinds.specs.declared.steps.Label.TheVariants.{Raw}
-use Rattle.step_kinds.specs.declared.steps.Step.{Step}
-use Rattle.step_kinds.specs.declared.steps.Step.TheVariants.{Enable, Train, Break, DropDone, Offer, Check, Ready, Join, Begin, QpDown, Xbegin, Post, Land, Look, Copy, Clear, Ack, Wake, Irq, Mask, Unmask, Spad, Poke, ShowMem, ShowPad, ShowQueue}
+use Rattle.step_kinds.specs.declared.places.BridgeStep.{BridgeStep}
+use Rattle.step_kinds.specs.declared.places.BridgeStep.TheVariants.{Enable, Train, Break, DropDone, Offer, Check, Ready, Join, Land, Irq, Mask, Unmask, Spad, Poke, ShowMem, ShowPad, ShowQueue}
+use Rattle.step_kinds.specs.declared.places.QueueStep.{QueueStep}
+use Rattle.step_kinds.specs.declared.places.QueueStep.TheVariants.{Begin, QpDown, Xbegin, Post, Look, Copy, Clear, Ack, Wake}
 use Rattle.plan_model.specs.Device.{stopped_after_send, stays_stopped, count_accepted, count_refused, count_delivered}
 use Rattle.plan_model.specs.Ethernet.{ethernet_frame}
 use Rattle.plan_model.specs.Link.{is_up, enable_refusal, train_refusal, cut_refusal, drop_refusal}
@@ -47,30 +49,29 @@ bridge_shown bridge answer = record { answer = answer; bridge = bridge }
 abbrev pub posted_aside : Bridge → Side → PostedWrite → Bridge
 posted_aside bridge side write = if is_up bridge.link.state then with_posted bridge side write else bridge
 
-abbrev pub bridge_turn : Bridge → Step → BridgeTurn
-bridge_turn bridge (Enable p side) = record { answer = of_link (enable_refusal bridge.link side) Done; bridge = after_enable bridge side }
-bridge_turn bridge (Train p) = record { answer = of_link (train_refusal bridge.link) (OkSession (bridge.link.session + 1)); bridge = after_train bridge }
-bridge_turn bridge (Break p) = record { answer = of_link (cut_refusal bridge.link) Done; bridge = after_cut bridge }
-bridge_turn bridge (DropDone p) = record { answer = of_link (drop_refusal bridge.link) Done; bridge = after_drop bridge }
-bridge_turn bridge (Offer p side) = record { answer = of_offer (offer_answer bridge side); bridge = after_offer bridge side }
-bridge_turn bridge (Check p side) = record { answer = of_check (check_answer bridge side); bridge = after_check bridge side }
-bridge_turn bridge (Ready p side queue) = record { answer = of_ready (ready_answer bridge side queue); bridge = after_ready bridge side queue }
-bridge_turn bridge (Join p side queue) = record { answer = of_join (join_answer bridge side queue); bridge = after_join bridge side queue }
-bridge_turn bridge (Land p side place) = record { answer = of_land (label_landed (landing bridge side place)); bridge = after_land bridge side place }
-bridge_turn bridge (Irq p side) = record { answer = IrqBits (irq_bits bridge side); bridge = after_irq bridge side }
-bridge_turn bridge (Mask p side bits) =
+abbrev pub bridge_turn : Bridge → BridgeStep → BridgeTurn
+bridge_turn bridge (Enable side) = record { answer = of_link (enable_refusal bridge.link side) Done; bridge = after_enable bridge side }
+bridge_turn bridge Train = record { answer = of_link (train_refusal bridge.link) (OkSession (bridge.link.session + 1)); bridge = after_train bridge }
+bridge_turn bridge Break = record { answer = of_link (cut_refusal bridge.link) Done; bridge = after_cut bridge }
+bridge_turn bridge DropDone = record { answer = of_link (drop_refusal bridge.link) Done; bridge = after_drop bridge }
+bridge_turn bridge (Offer side) = record { answer = of_offer (offer_answer bridge side); bridge = after_offer bridge side }
+bridge_turn bridge (Check side) = record { answer = of_check (check_answer bridge side); bridge = after_check bridge side }
+bridge_turn bridge (Ready side queue) = record { answer = of_ready (ready_answer bridge side queue); bridge = after_ready bridge side queue }
+bridge_turn bridge (Join side queue) = record { answer = of_join (join_answer bridge side queue); bridge = after_join bridge side queue }
+bridge_turn bridge (Land side place) = record { answer = of_land (label_landed (landing bridge side place)); bridge = after_land bridge side place }
+bridge_turn bridge (Irq side) = record { answer = IrqBits (irq_bits bridge side); bridge = after_irq bridge side }
+bridge_turn bridge (Mask side bits) =
     record { answer = Done; bridge = with_bells bridge side (with_masked (bells_of bridge side) (bit_or (bells_of bridge side).masked bits)) }
-bridge_turn bridge (Unmask p side bits) =
+bridge_turn bridge (Unmask side bits) =
     record { answer = Done; bridge = with_bells bridge side (with_masked (bells_of bridge side) (without_bits (bells_of bridge side).masked bits)) }
-bridge_turn bridge (Spad p side i value) = record { answer = Done; bridge = posted_aside bridge side (pad_write i value) }
-bridge_turn bridge (Poke p side window offset bytes) =
-    record { answer = Done; bridge = posted_aside bridge side (memory_write (Raw window offset (length bytes)) window offset bytes) }
-bridge_turn bridge (ShowMem p side at len) = bridge_shown bridge (Mem (bytes_at at len (bytes_of bridge side)))
-bridge_turn bridge (ShowPad p side i) = bridge_shown bridge (PadValue (slice_index (pads_of bridge side) i))
-bridge_turn bridge (ShowQueue p side place) =
+bridge_turn bridge (Spad side i value) = record { answer = Done; bridge = posted_aside bridge side (pad_write i value) }
+bridge_turn bridge (Poke side window offset bytes) =
+    record { answer = Done; bridge = posted_aside bridge side (memory_write (Raw window offset (length bytes.now)) window offset bytes.now) }
+bridge_turn bridge (ShowMem side at len) = bridge_shown bridge (Mem (bytes_at at len (bytes_of bridge side)))
+bridge_turn bridge (ShowPad side i) = bridge_shown bridge (PadValue (slice_index (pads_of bridge side) i))
+bridge_turn bridge (ShowQueue side place) =
     let writes = (flight_of bridge side).writes in
     bridge_shown bridge (QueueShown (length writes) (option_map (λ (flying : Flying). flying.label) (slice_get writes place)))
-bridge_turn bridge step = bridge_shown bridge Done
 
 -- On one queue
 
@@ -157,15 +158,14 @@ wake_turn part bridge =
     let stays = stays_stopped part.flow (free_answer part.queue.port bridge) in
     record { answer = (if stays then Stopped else Awake); part = record part { flow = record part.flow { stopped = stays } }; bridge = bridge }
 
-abbrev pub queue_turn : List DevPlan → QueuePart → Bridge → Step → QueueTurn
-queue_turn devs part bridge (Begin p side queue frame) = begin_turn part bridge frame
-queue_turn devs part bridge (QpDown p side queue) = qpdown_turn part bridge
-queue_turn devs part bridge (Xbegin p side queue dev dst kind payload) =
-    frame_turn part bridge (ethernet_frame dst (dev_plan devs dev).address kind payload)
-queue_turn devs part bridge (Post p side queue) = post_turn part bridge
-queue_turn devs part bridge (Look p side queue) = look_turn part bridge
-queue_turn devs part bridge (Copy p side queue) = copy_turn part bridge
-queue_turn devs part bridge (Clear p side queue) = clear_turn part bridge
-queue_turn devs part bridge (Ack p side queue) = ack_turn part bridge
-queue_turn devs part bridge (Wake p side queue dev) = wake_turn part bridge
-queue_turn devs part bridge step = record { answer = Done; part = part; bridge = bridge }
+abbrev pub queue_turn : List DevPlan → QueuePart → Bridge → QueueStep → QueueTurn
+queue_turn devs part bridge (Begin frame) = begin_turn part bridge frame.now
+queue_turn devs part bridge QpDown = qpdown_turn part bridge
+queue_turn devs part bridge (Xbegin dev dst kind payload) =
+    frame_turn part bridge (ethernet_frame dst.now (dev_plan devs dev).address kind payload.now)
+queue_turn devs part bridge Post = post_turn part bridge
+queue_turn devs part bridge Look = look_turn part bridge
+queue_turn devs part bridge Copy = copy_turn part bridge
+queue_turn devs part bridge Clear = clear_turn part bridge
+queue_turn devs part bridge Ack = ack_turn part bridge
+queue_turn devs part bridge (Wake dev) = wake_turn part bridge
