@@ -3,6 +3,7 @@ mod DeclaredNetworks
 pub mod Facade
 mod HavePorts
 mod Networks
+mod PartsOfSteps
 mod PlainFabrics
 mod RefusedAgain
 mod SameClusters
