@@ -1,8 +1,6 @@
 -- What a step needs and where it may be out of memory, by where it is made.
-use Rattle.std.proofs.Common.{◌≡◌, ◌∙◌, ℕ, true, IsErr, List, Result, Ok, Err, OnErr, ap, refl, subst, sym}
-use Rattle.std.proofs.lemmas.Bool.{false≢true}
+use Rattle.std.proofs.Common.{◌≡◌, ◌∙◌, true, IsErr, List, Result, Ok, Err, OnErr, ap, refl, subst, sym}
 use Rattle.step_kinds.specs.Places.{by_value, step_place}
-use Rattle.step_kinds.specs.declared.places.BridgeStep.{BridgeStep}
 use Rattle.step_kinds.specs.declared.places.BridgeStep.TheVariants.{Poke}
 use Rattle.step_kinds.specs.declared.places.QueueStep.TheVariants.{Begin, Xbegin}
 use Rattle.step_kinds.specs.declared.places.StepPlace.{StepPlace}

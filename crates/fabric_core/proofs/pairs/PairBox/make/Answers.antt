@@ -1,6 +1,5 @@
 use Rattle.std.proofs.Common.{ap, sym}
-use Rattle.step_kinds.specs.declared.places.SideStep.TheVariants.{Clean}
-use Rattle.step_kinds.specs.declared.places.StepPlace.TheVariants.{OnBridge, OnQueue, OnSide, OnSwitch}
+use Rattle.step_kinds.specs.declared.places.StepPlace.TheVariants.{OnBridge, OnQueue, OnSwitch}
 use Rattle.fabric_rule.specs.Moves.{Move}
 use Rattle.fabric_rule.specs.Parts.{plain_pair}
 use Rattle.fabric_core.proofs.TurnsOfPairs.{answered, left, made_there}
