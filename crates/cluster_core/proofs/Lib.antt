@@ -3,7 +3,6 @@ mod DeclaredNetworks
 pub mod Facade
 mod HavePorts
 mod Networks
-mod PartsOfSteps
 mod PlainFabrics
 mod RefusedAgain
 mod SameClusters

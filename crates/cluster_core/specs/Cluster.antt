@@ -1,5 +1,5 @@
 -- A cluster as contracts see it: the fabric of its bridges, and its switches as they are declared and as they are.
-use Rattle.std.specs.Prelude.{List, []}
+use Rattle.std.specs.Prelude.{List}
 use Rattle.step_kinds.specs.declared.plan.Plan.{Plan}
 use Rattle.step_kinds.specs.declared.plan.SwitchPlan.{SwitchPlan}
 use Rattle.fabric_core.specs.Fabric.{FabricState, plan_kept}
