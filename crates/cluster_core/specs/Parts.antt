@@ -23,14 +23,14 @@ use Rattle.cluster_core.specs.declared.parts.StepPart.TheVariants.{Copies, OnBri
 use Rattle.cluster_core.specs.declared.ports.PortPlace.{PortPlace}
 
 -- of a step on the pair of this number, by where on it the step is made
-abbrev pub part_at : ℕ → StepPlace → StepPart
-part_at pair (OnSwitch (Relay side queue switch port)) = Relays switch port
-part_at pair (OnSwitch (Xnext side queue dev)) = Sends (record { pair = pair; from = side; queue = queue })
-part_at pair (OnQueue side queue CopyThere) = Copies (record { pair = pair; from = side; queue = queue })
-part_at pair place = OnBridges
+abbrev pub part_by_place : ℕ → StepPlace → StepPart
+part_by_place pair (OnSwitch (Relay side queue switch port)) = Relays switch port
+part_by_place pair (OnSwitch (Xnext side queue dev)) = Sends (record { pair = pair; from = side; queue = queue })
+part_by_place pair (OnQueue side queue CopyThere) = Copies (record { pair = pair; from = side; queue = queue })
+part_by_place pair place = OnBridges
 
 abbrev pub part_of : Step → StepPart
-part_of step = part_at (subject_of step) (step_place step)
+part_of step = part_by_place (subject_of step) (step_place step)
 
 -- a copy may deliver a frame that then arrives at a port
 abbrev pub may_arrive : Step → Bool

@@ -50,15 +50,14 @@ pub fn part_of(step: &Step) -> StepPart
             },
         },
         StepPlace::OnQueue {
-            step:
-                QueueStep::Begin { .. }
-                | QueueStep::QpDown
-                | QueueStep::Xbegin { .. }
-                | QueueStep::Post
-                | QueueStep::Look
-                | QueueStep::Clear
-                | QueueStep::Ack
-                | QueueStep::Wake { .. },
+            step: QueueStep::Begin { .. }
+            | QueueStep::QpDown
+            | QueueStep::Xbegin { .. }
+            | QueueStep::Post
+            | QueueStep::Look
+            | QueueStep::Clear
+            | QueueStep::Ack
+            | QueueStep::Wake { .. },
             ..
         }
         | StepPlace::OnSide { .. }

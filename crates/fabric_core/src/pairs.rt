@@ -27,7 +27,9 @@ use bridge_pair::Pair;
 use plan_numbers::side_plan;
 use std::alloc::{AllocError, Global};
 use std::marker::Model;
-use step_kinds::{Answer, BridgeStep, DevPlan, PairPlan, QueueStep, Side, SideStep, Step, StepPlace};
+use step_kinds::{
+    Answer, BridgeStep, DevPlan, PairPlan, QueueStep, Side, SideStep, Step, StepPlace,
+};
 
 /// A pair in bytes with the queues of its two sides. Contracts see both.
 #[derive(Drop)]
