@@ -1,53 +1,48 @@
--- Lists of lanes at work, and records that come to their keys.
-use Rattle.std.proofs.Common.{◌≡◌, suc, Result, Ok, Err, OnOk, is_ok, if◌then◌else◌, List, [], ◌∷◌, ◌++◌, length, map, refl, sym, ◌∙◌, ap, subst, arith, append-nil, append_assoc}
+-- Lists of works at lanes, and records that come to their keys.
+use Rattle.std.proofs.Common.{◌≡◌, ℕ, suc, ◌<◌, Result, Ok, Err, OnOk, is_ok, if◌then◌else◌, List, [], ◌∷◌, ◌++◌, length, map, slice_index_or, refl, sym, ◌∙◌, ap, subst, arith, append-nil, append_assoc}
 use Rattle.std.proofs.lemmas.List.{map-append}
-use Rattle.step_kinds.specs.Runs.{LaneShown, lane_shown}
-use Rattle.step_kinds.specs.declared.runs.LaneRun.{LaneRun}
 use Rattle.table_lane.specs.EndOfLane.{Shown}
-use Rattle.cluster_run.specs.LaneKeys.{LaneKey, LaneState, ComesTo, ComeTo, KeepKeys, keys_of}
+use Rattle.cluster_run.specs.LaneKeys.{LaneKey, LaneState, ComeTo, keys_of}
 
 -- what is kept place by place is kept as a list
-pub keys_kept : (before after : List LaneState) → length after ≡ length before → KeepKeys before after → keys_of after ≡ keys_of before
-keys_kept [] [] many keep = refl
-keys_kept [] (y ∷ ys) many keep = absurd (omega (arith, many))
-keys_kept (x ∷ xs) [] many keep = absurd (omega (arith, many))
-keys_kept (x ∷ xs) (y ∷ ys) many keep =
-    let first : y.key ≡ x.key = keep 0 x (omega arith) in
-    let rest : keys_of ys ≡ keys_of xs = keys_kept xs ys (omega (arith, many)) (λ i lane below. keep (suc i) lane (omega arith)) in
-    ap (λ key. key ∷ keys_of ys) first ∙ ap (λ keys. x.key ∷ keys) rest
+pub keys_kept : {W : Type 0} (key : W → LaneKey) (before after : List W) → length after ≡ length before → ((i : ℕ) (work : W) → i < length before → key (slice_index_or after i work) ≡ key (slice_index_or before i work)) → map key after ≡ map key before
+keys_kept key [] [] many keep = refl
+keys_kept key [] (y ∷ ys) many keep = absurd (omega (arith, many))
+keys_kept key (x ∷ xs) [] many keep = absurd (omega (arith, many))
+keys_kept key (x ∷ xs) (y ∷ ys) many keep =
+    let first : key y ≡ key x = keep 0 x (omega arith) in
+    let rest : map key ys ≡ map key xs = keys_kept key xs ys (omega (arith, many)) (λ i work below. keep (suc i) work (omega arith)) in
+    ap (λ k. k ∷ map key ys) first ∙ ap (λ keys. key x ∷ keys) rest
 
--- one lane more that is at work, and fewer that wait
-pub keys_opened : (works : List LaneState) (work : LaneState) (task : LaneKey) (rest all : List LaneKey) → work.key ≡ task → keys_of works ++ task ∷ rest ≡ all → keys_of (works ++ work ∷ []) ++ rest ≡ all
-keys_opened works work task rest all is order =
-    ap (λ keys. keys ++ rest) (map-append (λ (lane : LaneState). lane.key) works (work ∷ []))
-    ∙ (append_assoc (keys_of works) (work.key ∷ []) rest ∙ (ap (λ key. keys_of works ++ key ∷ rest) is ∙ order))
+-- one record more
+come_to-push : {L : Type 0} (Comes : LaneKey → L → List Shown → Type 0) (keys : List LaneKey) (lanes : List L) (proofs : List Shown) (key : LaneKey) (lane : L) (more : List Shown)
+    → ComeTo Comes keys lanes proofs → Comes key lane more → ComeTo Comes (keys ++ key ∷ []) (lanes ++ lane ∷ []) (proofs ++ more)
+come_to-push Comes [] [] proofs key lane more none one = (more, [], ap (λ proofs. proofs ++ more) none ∙ sym (append-nil more), one, refl)
+come_to-push Comes [] (l ∷ lanes) proofs key lane more none one = absurd none
+come_to-push Comes (k ∷ keys) [] proofs key lane more none one = absurd none
+come_to-push Comes (k ∷ keys) (l ∷ lanes) proofs key lane more come one =
+    (come.0, come.1 ++ more, ap (λ proofs. proofs ++ more) come.2 ∙ append_assoc come.0 come.1 more, come.3, come_to-push Comes keys lanes come.1 key lane more come.4 one)
 
--- one lane more
-come_to-push : (keys : List LaneKey) (lanes : List LaneShown) (proofs : List Shown) (key : LaneKey) (lane : LaneShown) (more : List Shown)
-    → ComeTo keys lanes proofs → ComesTo key lane more → ComeTo (keys ++ key ∷ []) (lanes ++ lane ∷ []) (proofs ++ more)
-come_to-push [] [] proofs key lane more none one = (more, [], ap (λ proofs. proofs ++ more) none ∙ sym (append-nil more), one, refl)
-come_to-push [] (l ∷ lanes) proofs key lane more none one = absurd none
-come_to-push (k ∷ keys) [] proofs key lane more none one = absurd none
-come_to-push (k ∷ keys) (l ∷ lanes) proofs key lane more come one =
-    (come.0, come.1 ++ more, ap (λ proofs. proofs ++ more) come.2 ∙ append_assoc come.0 come.1 more, come.3, come_to-push keys lanes come.1 key lane more come.4 one)
+-- Records that come to their keys still do with one more, which comes to its own key.
+lane_added : {L S : Type 0} (Comes : LaneKey → S → List Shown → Type 0) (shown : L → S) (keys : List LaneKey) (lanes runs : List L) (proofs all more : List Shown) (key : LaneKey) (lane : L)
+    → runs ≡ lanes ++ lane ∷ [] → all ≡ proofs ++ more → Comes key (shown lane) more → ComeTo Comes keys (map shown lanes) proofs
+    → ComeTo Comes (keys ++ key ∷ []) (map shown runs) all
+lane_added {L} {S} Comes shown keys lanes runs proofs all more key lane runs_are all_are one come =
+    let are : map shown lanes ++ shown lane ∷ [] ≡ map shown runs = sym (ap (map shown) runs_are ∙ map-append shown lanes (lane ∷ [])) in
+    subst (λ (shown : List S). ComeTo Comes (keys ++ key ∷ []) shown all) are
+    (subst (λ (all : List Shown). ComeTo Comes (keys ++ key ∷ []) (map shown lanes ++ shown lane ∷ []) all) (sym all_are)
+    (come_to-push Comes keys (map shown lanes) proofs key (shown lane) more come one))
 
--- Lane records that come to their keys still do with one lane more, whose record comes to its own key.
-pub lane_added : (keys : List LaneKey) (lanes runs : List LaneRun) (proofs all more : List Shown) (key : LaneKey) (lane : LaneRun)
-    → runs ≡ lanes ++ lane ∷ [] → all ≡ proofs ++ more → ComesTo key (lane_shown lane) more → ComeTo keys (map lane_shown lanes) proofs
-    → ComeTo (keys ++ key ∷ []) (map lane_shown runs) all
-lane_added keys lanes runs proofs all more key lane runs_are all_are one come =
-    let shown : map lane_shown lanes ++ lane_shown lane ∷ [] ≡ map lane_shown runs = sym (ap (map lane_shown) runs_are ∙ map-append lane_shown lanes (lane ∷ [])) in
-    subst (λ (shown : List LaneShown). ComeTo (keys ++ key ∷ []) shown all) shown
-    (subst (λ (all : List Shown). ComeTo (keys ++ key ∷ []) (map lane_shown lanes ++ lane_shown lane ∷ []) all) (sym all_are)
-    (come_to-push keys (map lane_shown lanes) proofs key (lane_shown lane) more come one))
+-- A call that succeeds and adds a record, come to its key, leaves records that all come to their keys.
+pub added_on_ok : {L S T E : Type 0} (Comes : LaneKey → S → List Shown → Type 0) (shown : L → S) (result : Result T E) (lanes runs : List L) (proofs all more : List Shown) (key : LaneKey) (lane : L)
+    → runs ≡ lanes ++ lane ∷ [] → all ≡ (if is_ok result then proofs ++ more else proofs) → Comes key (shown lane) more
+    → OnOk result ((keys : List LaneKey) → ComeTo Comes keys (map shown lanes) proofs → ComeTo Comes (keys ++ key ∷ []) (map shown runs) all)
+added_on_ok Comes shown (Ok x) lanes runs proofs all more key lane runs_are all_are one = λ keys come. lane_added Comes shown keys lanes runs proofs all more key lane runs_are all_are one come
+added_on_ok Comes shown (Err e) lanes runs proofs all more key lane runs_are all_are one = tt
 
--- A call that succeeds and adds a lane's record, come to its key, leaves records that all come to their keys.
-pub added_on_ok : {T E : Type 0} (result : Result T E) (lanes runs : List LaneRun) (proofs all more : List Shown) (key : LaneKey) (lane : LaneRun)
-    → runs ≡ lanes ++ lane ∷ [] → all ≡ (if is_ok result then proofs ++ more else proofs) → ComesTo key (lane_shown lane) more
-    → OnOk result ((keys : List LaneKey) → ComeTo keys (map lane_shown lanes) proofs → ComeTo (keys ++ key ∷ []) (map lane_shown runs) all)
-added_on_ok (Ok x) lanes runs proofs all more key lane runs_are all_are one = λ keys come. lane_added keys lanes runs proofs all more key lane runs_are all_are one come
-added_on_ok (Err e) lanes runs proofs all more key lane runs_are all_are one = tt
-
--- lanes added one after another are added together
-pub added_together : (keys more : List LaneKey) (one : LaneKey) (lanes : List LaneShown) (proofs : List Shown) → ComeTo (keys ++ more ++ one ∷ []) lanes proofs → ComeTo (keys ++ (more ++ one ∷ [])) lanes proofs
-added_together keys more one lanes proofs come = subst (λ (all : List LaneKey). ComeTo all lanes proofs) (append_assoc keys more (one ∷ [])) come
+-- Records of works that are added one after another are added together.
+pub added_together : {L : Type 0} (Comes : LaneKey → L → List Shown → Type 0) (keys : List LaneKey) (works : List LaneState) (work : LaneState) (lanes : List L) (proofs : List Shown)
+    → ComeTo Comes (keys ++ keys_of works ++ work.key ∷ []) lanes proofs → ComeTo Comes (keys ++ keys_of (works ++ work ∷ [])) lanes proofs
+added_together Comes keys works work lanes proofs come =
+    subst (λ (all : List LaneKey). ComeTo Comes all lanes proofs)
+    (append_assoc keys (keys_of works) (work.key ∷ []) ∙ ap (λ more. keys ++ more) (sym (map-append (λ (work : LaneState). work.key) works (work ∷ [])))) come

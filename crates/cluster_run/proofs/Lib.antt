@@ -1,8 +1,10 @@
+pub mod Facade
 mod FramesOfSession
 mod LaneEnds
-mod LaneLists
+pub mod LaneLists
 mod PlacesOfLanes
 mod RecordFits
+pub mod RunSoFar
 mod TrafficByLane
 mod TrafficCounts
 mod TrafficLanes

@@ -1,5 +1,5 @@
 -- The record of lanes that come to their keys fits the plan, and their proofs show it.
-use Rattle.std.proofs.Common.{◌≡◌, ℕ, zero, suc, ◌+◌, ◌*◌, ◌≤◌, Bool, true, false, cond, nat_lt, Result, Ok, Err, IfOk, List, [], ◌∷◌, ◌++◌, length, map, filter, drop, slice_index_or, refl, sym, ◌∙◌, ap, subst, arith, append-nil, append_assoc, length-append}
+use Rattle.std.proofs.Common.{◌≡◌, ℕ, zero, suc, ◌+◌, ◌*◌, ◌≤◌, Bool, true, false, cond, nat_lt, Result, Ok, Err, IfOk, List, [], ◌∷◌, ◌++◌, length, map, filter, drop, slice_index_or, refl, sym, ◌∙◌, ap, arith, length-append}
 use Rattle.std.proofs.lemmas.List.{length-map}
 use Rattle.std.proofs.lemmas.List.Elements.{All-cons, All-nil}
 use Rattle.std.specs.List.{All, flat_map, range_with_len}
@@ -12,6 +12,7 @@ use Rattle.cluster_run.specs.Lanes.{CanRun, lanes_of, lanes_in, has_traffic, tra
 use Rattle.cluster_run.specs.Runs.{FitsLane, IsFit, IsShown, lane_proofs}
 use Rattle.cluster_run.specs.LaneKeys.{LaneKey, key_of, ComesTo, ComeTo}
 use Rattle.cluster_run.specs.ByLane.{LaneFrames, lane_frames, frames_of, by_lane, keys_with_frames, key_with, AreOfTraffic}
+use Rattle.cluster_run.proofs.RunSoFar.{all_keys, names_of}
 use Rattle.cluster_run.proofs.TrafficLanes.{few_waiting}
 use Rattle.cluster_run.specs.declared.by_lane.LaneTraffic.{LaneTraffic}
 
@@ -59,13 +60,6 @@ keys_named plan (name ∷ names) =
     (keys_named plan names)
 
 -- lanes that come to the keys of these names
-names_of : (plan : Plan) (names : List LaneName) (run : List LaneShown) (proofs : List Shown) → ComeTo (map (key_of plan) names) run proofs → map (λ (lane : LaneShown). lane.name) run ≡ names
-names_of plan [] [] proofs come = refl
-names_of plan [] (lane ∷ run) proofs come = absurd come
-names_of plan (name ∷ names) [] proofs come = absurd come
-names_of plan (name ∷ names) (lane ∷ run) proofs come =
-    ap (λ (n : LaneName). n ∷ map (λ (lane : LaneShown). lane.name) run) come.3.name ∙ ap (λ (rest : List LaneName). name ∷ rest) (names_of plan names run come.1 come.4)
-
 fits_lane : (plan : Plan) (name : LaneName) (lane : LaneShown) (proofs : List Shown) → ComesTo (key_of plan name) lane proofs → FitsLane plan lane
 fits_lane plan name lane proofs come = record {
   sessions = come.sessions ∙ ap (λ (n : LaneName). 1 + losses_on plan n) (sym come.name);
@@ -73,23 +67,19 @@ fits_lane plan name lane proofs come = record {
   nothing_left = come.nothing_left;
 }
 
-fit_all : (plan : Plan) (names : List LaneName) (run : List LaneShown) (proofs : List Shown) → ComeTo (map (key_of plan) names) run proofs → All (FitsLane plan) run
+fit_all : (plan : Plan) (names : List LaneName) (run : List LaneShown) (proofs : List Shown) → ComeTo ComesTo (map (key_of plan) names) run proofs → All (FitsLane plan) run
 fit_all plan [] [] proofs come = All-nil (FitsLane plan)
 fit_all plan [] (lane ∷ run) proofs come = absurd come
 fit_all plan (name ∷ names) [] proofs come = absurd come
 fit_all plan (name ∷ names) (lane ∷ run) proofs come = All-cons (FitsLane plan) lane run (fits_lane plan name lane come.0 come.3) (fit_all plan names run come.1 come.4)
 
-shown_all : (plan : Plan) (names : List LaneName) (run : List LaneShown) (proofs : List Shown) → ComeTo (map (key_of plan) names) run proofs → IsShown plan run proofs
+shown_all : (plan : Plan) (names : List LaneName) (run : List LaneShown) (proofs : List Shown) → ComeTo ComesTo (map (key_of plan) names) run proofs → IsShown plan run proofs
 shown_all plan [] [] proofs come = come
 shown_all plan [] (lane ∷ run) proofs come = absurd come
 shown_all plan (name ∷ names) [] proofs come = absurd come
 shown_all plan (name ∷ names) (lane ∷ run) proofs come =
     come.2 ∙ (ap (λ (first : List Shown). first ++ come.1) (come.3.shown ∙ ap (λ (n : LaneName). lane_proofs (entries_on plan n) lane.sessions) (sym come.3.name))
     ∙ ap (λ (rest : List Shown). lane_proofs (entries_on plan lane.name) lane.sessions ++ rest) (shown_all plan names run come.1 come.4))
-
--- the whole traffic
-abbrev pub all_keys : Plan → List LaneKey
-all_keys plan = map (key_of plan) (traffic_lanes plan)
 
 -- The keys of those lanes of a sorted traffic that have a frame are the keys of the plan's lanes with traffic.
 pub all_named : (plan : Plan) (lanes : List LaneTraffic) (tasks : List LaneKey) → map lane_frames lanes ≡ by_lane plan.traffic (length plan.pairs) → tasks ≡ keys_with_frames plan (map lane_frames lanes) → tasks ≡ all_keys plan
@@ -110,33 +100,10 @@ few_named plan can lanes tasks sorted keys =
     omega arith
 
 -- A record that comes to the keys of all the plan's lanes with traffic fits the plan.
-pub record_fits : (plan : Plan) (run : List LaneShown) (proofs : List Shown) → ComeTo (all_keys plan) run proofs → IsFit plan run
+pub record_fits : (plan : Plan) (run : List LaneShown) (proofs : List Shown) → ComeTo ComesTo (all_keys plan) run proofs → IsFit plan run
 record_fits plan run proofs come =
-    record { lanes = names_of plan (traffic_lanes plan) run proofs come; each = fit_all plan (traffic_lanes plan) run proofs come }
+    record { lanes = names_of ComesTo (λ (lane : LaneShown). lane.name) (λ key lane proofs come. come.name) plan (traffic_lanes plan) run proofs come; each = fit_all plan (traffic_lanes plan) run proofs come }
 
 -- A record that comes to the keys of all the plan's lanes with traffic is shown by its proofs.
-pub record_shown : (plan : Plan) (run : List LaneShown) (proofs : List Shown) → ComeTo (all_keys plan) run proofs → IsShown plan run proofs
+pub record_shown : (plan : Plan) (run : List LaneShown) (proofs : List Shown) → ComeTo ComesTo (all_keys plan) run proofs → IsShown plan run proofs
 record_shown plan run proofs come = shown_all plan (traffic_lanes plan) run proofs come
-
--- what a run has come to so far: some lanes are over, and the others wait
-pub record HasCome (plan : Plan) (waiting : List LaneKey) (run : List LaneShown) (proofs : List Shown) : Type 0 where
-  pub keys : List LaneKey
-  pub all : keys ++ waiting ≡ all_keys plan
-  pub come : ComeTo keys run proofs
-
--- As a run starts, with an empty record and no proofs, no lane is over and all lanes with traffic wait.
-pub none_over : (plan : Plan) (waiting : List LaneKey) (run : List LaneShown) (proofs : List Shown) → waiting ≡ all_keys plan → run ≡ [] → proofs ≡ [] → HasCome plan waiting run proofs
-none_over plan waiting run proofs keys no_run no_proofs =
-    record { keys = []; all = keys; come = subst (λ (run : List LaneShown). ComeTo [] run proofs) (sym no_run) no_proofs }
-
--- Once a group of the waiting lanes came to their keys, these too are over and only the others wait.
-pub group_over : (plan : Plan) (first : LaneKey) (before group after : List LaneKey) (old new : List LaneShown) (proofs all : List Shown) → HasCome plan (first ∷ before) old proofs → group ++ after ≡ first ∷ before
-    → ((keys : List LaneKey) → ComeTo keys old proofs → ComeTo (keys ++ group) new all) → HasCome plan after new all
-group_over plan first before group after old new proofs all come parts adds =
-    record { keys = come.keys ++ group; all = append_assoc come.keys group after ∙ (ap (λ rest. come.keys ++ rest) parts ∙ come.all); come = adds come.keys come.come }
-
--- Where no lane waits any more, the record of the run comes to the keys of all lanes with traffic.
-pub all_over : (plan : Plan) {waiting : List LaneKey} {run : List LaneShown} {proofs : List Shown} → waiting ≡ [] → HasCome plan waiting run proofs → ComeTo (all_keys plan) run proofs
-all_over plan {run = run} {proofs = proofs} none come =
-    let all = ap (λ waiting. come.keys ++ waiting) none in
-    subst (λ (keys : List LaneKey). ComeTo keys run proofs) (sym (append-nil come.keys) ∙ (sym all ∙ come.all)) come.come

@@ -1,5 +1,8 @@
 -- What a lane's work comes to, whatever its workers do: it is the same from the first round to the last.
-use Rattle.std.specs.Prelude.{◌≡◌, ℕ, ◌+◌, ◌<◌, Bool, true, List, [], ◌∷◌, ◌++◌, length, map, slice_index_or}
+use Rattle.std.specs.Prelude.{◌≡◌, ℕ, ◌+◌, Bool, true, List, [], ◌∷◌, ◌++◌, length, map}
+use Rattle.std.specs.Fork.{AcceptsAt, ChangesAt}
+use denote.Param.Members.{Shared}
+use denote.Ref.{MutBor}
 use Rattle.step_kinds.specs.declared.names.LaneName.{LaneName}
 use Rattle.step_kinds.specs.declared.plan.Plan.{Plan}
 use Rattle.step_kinds.specs.Runs.{SessionShown, LaneShown}
@@ -19,7 +22,7 @@ pub record LaneKey : Type 0 where
 abbrev pub key_of : Plan → LaneName → LaneKey
 key_of plan lane = record { name = lane; entries = entries_on plan lane; losses = losses_on plan lane; traffic = frames_on lane plan.traffic }
 
--- a lane at work, and whether its last session is whole
+-- a lane at work, or a stream of a lane: what it comes to, and whether its last session is whole
 pub record LaneState : Type 0 where
   pub key : LaneKey
   pub over : Bool
@@ -28,13 +31,14 @@ pub record LaneState : Type 0 where
 abbrev pub cut_proofs : ℕ → List SessionShown → List Shown
 cut_proofs entries sessions = map (session_proof entries true) sessions
 
--- the keys of lanes at work
+-- the keys of lanes, or of streams, at work
 abbrev pub keys_of : List LaneState → List LaneKey
 keys_of lanes = map (λ (lane : LaneState). lane.key) lanes
 
--- the lanes come to the same after a round as before it, place by place
-abbrev pub KeepKeys : List LaneState → List LaneState → Type 0
-KeepKeys before after = (i : ℕ) (lane : LaneState) → i < length before → (slice_index_or after i lane).key ≡ (slice_index_or before i lane).key
+-- passes may be made of any work's workers, whichever place it has among the works, and keep what it comes to
+pub record KeepsKey {F W : Type 0} (key : W → LaneKey) (g : Shared F (ℕ × (MutBor W × Unit {0})) (Unit {0} × (MutBor W × Unit {0}))) (passes : F) : Type 0 where
+  pub may : (i : ℕ) (work : W) → AcceptsAt g passes i work
+  pub keeps : (i : ℕ) (before after : W) → ChangesAt g passes i before after → key after ≡ key before
 
 -- the record of a lane comes to its key, and these are the proofs of its sessions
 pub record ComesTo (key : LaneKey) (lane : LaneShown) (proofs : List Shown) : Type 0 where
@@ -44,9 +48,11 @@ pub record ComesTo (key : LaneKey) (lane : LaneShown) (proofs : List Shown) : Ty
   pub nothing_left : left_at_last lane.sessions ≡ []
   pub shown : proofs ≡ lane_proofs key.entries lane.sessions
 
--- the records of lanes come to their keys, one by one, and these are the proofs of their sessions, lane by lane
-abbrev pub ComeTo : List LaneKey → List LaneShown → List Shown → Type 0
-ComeTo [] [] proofs = proofs ≡ []
-ComeTo (key ∷ keys) (lane ∷ lanes) proofs = (first : List Shown) × (rest : List Shown) × (proofs ≡ first ++ rest) × ComesTo key lane first × ComeTo keys lanes rest
-ComeTo [] (lane ∷ lanes) proofs = ⊥
-ComeTo (key ∷ keys) [] proofs = ⊥
+-- Records of lanes, or of their streams, come to their keys, one by one, and these are the proofs of their sessions, lane
+-- by lane. When one does, a relation says of its key, its record and its proofs.
+abbrev pub ComeTo : {L : Type 0} → (LaneKey → L → List Shown → Type 0) → List LaneKey → List L → List Shown → Type 0
+ComeTo Comes [] [] proofs = proofs ≡ []
+ComeTo Comes (key ∷ keys) (lane ∷ lanes) proofs =
+    (first : List Shown) × (rest : List Shown) × (proofs ≡ first ++ rest) × Comes key lane first × ComeTo Comes keys lanes rest
+ComeTo Comes [] (lane ∷ lanes) proofs = ⊥
+ComeTo Comes (key ∷ keys) [] proofs = ⊥

@@ -1,12 +1,18 @@
-//! Lanes whose rings are open together.
+//! Lanes whose rings are open together, and their rounds.
 
-ghost use Rattle.std.specs.Prelude.{◌≡◌, ◌≤◌, ◌++◌, ◌∷◌, length, IfOk};
+ghost use Rattle.std.specs.Prelude.{◌≡◌, ◌≤◌, ◌++◌, ◌∷◌, true, All, length, IfOk};
+ghost use Rattle.io_edges.specs.Gates.{LetsWorkers};
 ghost use Rattle.cluster_run.specs.LaneKeys.{keys_of};
+ghost use Rattle.cluster_run.specs.Lanes.{most_workers};
 
 use crate::lanes::LaneWork;
+use crate::rounds::finished;
 use crate::tasks::LaneTask;
+use io_edges::Gate;
 use std::alloc::{AllocError, Global};
 use std::collections::VecDeque;
+use std::sync::Wait;
+use std::thread::Threads;
 
 /// The rings of the lanes that are open together have at most so many entries in all.
 const MOST_OPEN: u32 = 1_000_000;
@@ -33,4 +39,29 @@ pub(crate) fn next_group(
         works.push(task.opened(alloc)?)?;
     }
     Ok(works)
+}
+
+/// Rounds of the lanes of a group, until all are over. What their work comes to stays. The only error is running out of
+/// memory.
+pub(crate) fn finished_group<R: Threads + Wait + Sync, G: Gate>(
+    rt: &R,
+    alloc: Global,
+    gate: &G,
+    works: Vec<LaneWork>,
+) -> Result<Vec<LaneWork>, AllocError>
+    requires { LetsWorkers (G.lets gate.now) most_workers }
+    ensures keys { IfOk result (λ done. keys_of done.items ≡ keys_of works.items) }
+    ensures over { IfOk result (λ done. All (λ work. work.over ≡ true) done.items) }
+{
+    finished(
+        rt,
+        alloc,
+        works,
+        &|_, work: &mut LaneWork|
+            requires { LetsWorkers (G.lets gate.now) most_workers }
+        { work.pass_in_threads(rt, gate) },
+        &|_, work: &mut LaneWork|
+            requires { LetsWorkers (G.lets gate.now) most_workers }
+        { work.pass_in_turn(gate) },
+    )
 }

@@ -9,6 +9,7 @@ ghost use Rattle.lane_workers.specs.Passes.{HaveBytes};
 ghost use Rattle.cluster_run.specs.LaneKeys.{ComesTo};
 ghost use Rattle.cluster_run.specs.Lanes.{most_lanes, most_workers};
 
+use crate::rounds::RoundWork;
 use crate::session::{Session, SessionEnd};
 use io_edges::Gate;
 use std::alloc::{AllocError, Global};
@@ -60,18 +61,6 @@ impl LaneWork {
         })
     }
 
-    /// Whether its last session is whole.
-    pub(crate) fn is_over(&self) -> bool
-        ensures { result ≡ self.now.over }
-    {
-        self.ahead == 0 && self.session.is_whole() && !self.session.is_cut()
-    }
-
-    /// Whether its session was cut.
-    pub(crate) fn is_cut(&self) -> bool {
-        self.session.is_cut()
-    }
-
     // With how many frames received the session is cut: its share of the frames, where a loss of the link is ahead.
     fn cut_after(&self) -> Option<usize> {
         match self.ahead {
@@ -104,11 +93,46 @@ impl LaneWork {
         self.session.pass_in_turn(gate, cut_after);
     }
 
-    /// Where the session was cut and is not the last, ends it and begins the next one, which has the frames to send that
-    /// were not accepted. The only error is running out of memory.
-    pub(crate) fn renewed(self, alloc: Global) -> Result<LaneWork, AllocError>
-        ensures { IfOk result (λ work. work.key ≡ self.key) }
+    /// Ends a lane that is over: its record, and the proofs of its sessions. The only error is running out of memory.
+    pub(crate) fn ended(self, alloc: Global) -> Result<(LaneRun, Vec<LaneProof>), AllocError>
+        requires { self.over ≡ true }
+        ensures { IfOk result (λ end. ComesTo self.key (lane_shown end.0) end.1.items) }
     {
+        let LaneWork {
+            name,
+            session,
+            mut runs,
+            mut proofs,
+            ..
+        } = self;
+        let SessionEnd { run, proof, .. } = session.ended(alloc)?;
+        runs.push(run)?;
+        proofs.push(proof)?;
+        let sessions = Items::of_vec(runs);
+        Ok((LaneRun { name, sessions }, proofs))
+    }
+}
+
+impl RoundWork for LaneWork {
+    ghost key = { λ work. work.key };
+
+    ghost over = { λ work. work.over };
+
+    fn is_over(&self) -> bool {
+        self.ahead == 0 && self.session.is_whole() && !self.session.is_cut()
+    }
+
+    fn is_cut(&self) -> bool {
+        self.session.is_cut()
+    }
+
+    // Only frames of a stream take memory in a session.
+    fn is_wanting(&self) -> bool {
+        false
+    }
+
+    // The next session has the frames to send that were not accepted.
+    fn renewed(self, alloc: Global) -> Result<LaneWork, AllocError> {
         if self.ahead == 0 || !self.session.is_cut() {
             return Ok(self);
         }
@@ -133,25 +157,6 @@ impl LaneWork {
             runs,
             proofs,
         })
-    }
-
-    /// Ends a lane that is over: its record, and the proofs of its sessions. The only error is running out of memory.
-    pub(crate) fn ended(self, alloc: Global) -> Result<(LaneRun, Vec<LaneProof>), AllocError>
-        requires { self.over ≡ true }
-        ensures { IfOk result (λ end. ComesTo self.key (lane_shown end.0) end.1.items) }
-    {
-        let LaneWork {
-            name,
-            session,
-            mut runs,
-            mut proofs,
-            ..
-        } = self;
-        let SessionEnd { run, proof, .. } = session.ended(alloc)?;
-        runs.push(run)?;
-        proofs.push(proof)?;
-        let sessions = Items::of_vec(runs);
-        Ok((LaneRun { name, sessions }, proofs))
     }
 }
 

@@ -11,7 +11,7 @@ mod lanes;
 pub mod laws;
 mod parts;
 mod progress;
-mod rounds;
+pub mod rounds;
 mod run;
 mod session;
 mod task_list;

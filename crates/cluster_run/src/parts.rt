@@ -2,7 +2,7 @@
 
 ghost use Rattle.std.specs.Prelude.{◌≡◌, ◌++◌, ◌∷◌, [], true, List, All, OnOk, map};
 ghost use Rattle.step_kinds.specs.Runs.{lane_shown};
-ghost use Rattle.cluster_run.specs.LaneKeys.{LaneKey, ComeTo, keys_of};
+ghost use Rattle.cluster_run.specs.LaneKeys.{LaneKey, ComesTo, ComeTo, keys_of};
 
 use crate::lanes::LaneWork;
 use std::alloc::{AllocError, Global};
@@ -31,7 +31,7 @@ impl RunParts {
     // Adds a lane that is over after the others.
     fn add(&mut self, alloc: Global, work: LaneWork) -> Result<(), AllocError>
         requires { work.over ≡ true }
-        ensures { OnOk result ((keys : List LaneKey) → ComeTo keys (map lane_shown self.old.lanes.items) self.old.proofs.items → ComeTo (keys ++ work.key ∷ []) (map lane_shown self.new.lanes.items) self.new.proofs.items) }
+        ensures { OnOk result ((keys : List LaneKey) → ComeTo ComesTo keys (map lane_shown self.old.lanes.items) self.old.proofs.items → ComeTo ComesTo (keys ++ work.key ∷ []) (map lane_shown self.new.lanes.items) self.new.proofs.items) }
     {
         let (lane, mut proofs) = work.ended(alloc)?;
         self.lanes.push(lane)?;
@@ -41,7 +41,7 @@ impl RunParts {
     /// Adds lanes that are over after the others, in order. The only error is running out of memory.
     pub(crate) fn add_all(&mut self, alloc: Global, works: Vec<LaneWork>) -> Result<(), AllocError>
         requires { All (λ work. work.over ≡ true) works.items }
-        ensures { OnOk result ((keys : List LaneKey) → ComeTo keys (map lane_shown self.old.lanes.items) self.old.proofs.items → ComeTo (keys ++ keys_of works.items) (map lane_shown self.new.lanes.items) self.new.proofs.items) }
+        ensures { OnOk result ((keys : List LaneKey) → ComeTo ComesTo keys (map lane_shown self.old.lanes.items) self.old.proofs.items → ComeTo ComesTo (keys ++ keys_of works.items) (map lane_shown self.new.lanes.items) self.new.proofs.items) }
     {
         for work in works {
             self.add(alloc, work)?;

@@ -1,18 +1,41 @@
-//! Rounds of the workers of lanes that are open together.
+//! Rounds of the workers of lanes, or of streams, that are open together.
 
-ghost use Rattle.std.specs.Prelude.{◌≡◌, ◌≤◌, true, All, IfOk, IsTrue};
-ghost use Rattle.io_edges.specs.Gates.{LetsWorkers};
-ghost use Rattle.cluster_run.specs.LaneKeys.{KeepKeys, keys_of};
-ghost use Rattle.cluster_run.specs.Lanes.{most_workers};
+ghost use Rattle.std.specs.Prelude.{◌≡◌, ◌≤◌, Bool, true, All, IfOk, IsTrue, map};
+ghost use Rattle.cluster_run.specs.LaneKeys.{LaneKey, KeepsKey};
 
-use crate::lanes::LaneWork;
-use io_edges::Gate;
 use std::alloc::{AllocError, Global};
 use std::sync::Wait;
 use std::thread;
 use std::thread::Threads;
 
-/// So many lanes have a thread for each of their workers. Of more lanes a thread makes the passes of several in turn.
+/// Work at one lane, or at one stream, that goes on in rounds until it is over.
+pub trait RoundWork: Send + Drop {
+    /// What it comes to, which never changes.
+    ghost key: { Self → LaneKey };
+
+    /// Whether its last session is whole.
+    ghost over: { Self → Bool };
+
+    /// Whether its last session is whole.
+    fn is_over(&self) -> bool
+        ensures { result ≡ over self.now };
+
+    /// Whether its session was cut.
+    fn is_cut(&self) -> bool;
+
+    /// Whether a session lacked memory.
+    fn is_wanting(&self) -> bool;
+
+    /// Where its session was cut and is not the last, ends it and begins the next one.
+    ///
+    /// # Errors
+    ///
+    /// [`AllocError`] only when out of memory.
+    fn renewed(self, alloc: Global) -> Result<Self, AllocError>
+        ensures { IfOk result (λ work. key work ≡ key self) };
+}
+
+/// So many lanes have threads for their workers. Of more lanes a thread makes the passes of several in turn.
 const FEW_LANES: usize = 4;
 
 /// So many threads carry lanes where the number of processors isn't known.
@@ -28,66 +51,39 @@ fn thread_count<R: Threads>(rt: &R) -> usize
     }
 }
 
-// A round in which each worker has a thread of its own.
-fn round_in_threads<R: Threads + Sync, G: Gate>(rt: &R, gate: &G, works: &mut [LaneWork])
-    requires { LetsWorkers (G.lets gate.now) most_workers }
-    ensures { KeepKeys works.old works.new }
-{
-    thread::for_each_mut(
-        rt,
-        works,
-        FEW_LANES,
-        &|_, work: &mut LaneWork|
-            requires { LetsWorkers (G.lets gate.now) most_workers }
-        { work.pass_in_threads(rt, gate) },
-    );
-}
-
-// A round in which each of so many threads makes the passes of several lanes' workers in turn.
-fn round_in_turn<R: Threads + Sync, G: Gate>(
-    rt: &R,
-    gate: &G,
-    threads: usize,
-    works: &mut [LaneWork],
-)
+// A round of works. The workers of few have threads; of more each of so many threads makes the passes of several in turn.
+fn round<W, R, F, I>(rt: &R, threads: usize, works: &mut [W], in_threads: &F, in_turn: &I)
+where
+    W: RoundWork,
+    R: Threads + Sync,
+    F: Fn(usize, &mut W) + Sync,
+    I: Fn(usize, &mut W) + Sync,
     requires some { 1 ≤ threads }
-    requires gate { LetsWorkers (G.lets gate.now) most_workers }
-    ensures { KeepKeys works.old works.new }
-{
-    thread::for_each_mut(
-        rt,
-        works,
-        threads,
-        &|_, work: &mut LaneWork|
-            requires { LetsWorkers (G.lets gate.now) most_workers }
-        { work.pass_in_turn(gate) },
-    );
-}
-
-// A round of the lanes that are not over.
-fn round<R: Threads + Sync, G: Gate>(rt: &R, gate: &G, threads: usize, works: &mut [LaneWork])
-    requires some { 1 ≤ threads }
-    requires gate { LetsWorkers (G.lets gate.now) most_workers }
-    ensures { keys_of works.new ≡ keys_of works.old }
+    requires in_threads { KeepsKey W.key F.Fn in_threads.now }
+    requires in_turn { KeepsKey W.key I.Fn in_turn.now }
+    ensures { map W.key works.new ≡ map W.key works.old }
 {
     if works.len() <= FEW_LANES {
-        round_in_threads(rt, gate, works);
+        thread::for_each_mut(rt, works, FEW_LANES, in_threads);
     } else {
-        round_in_turn(rt, gate, threads, works);
+        thread::for_each_mut(rt, works, threads, in_turn);
     }
 }
 
-// Whether all lanes are over.
-fn are_over(works: &[LaneWork]) -> bool
-    ensures { IsTrue result → All (λ work. work.over ≡ true) works.now }
+// Whether all works are over.
+fn are_over<W: RoundWork>(works: &[W]) -> bool
+    ensures { IsTrue result → All (λ work. W.over work ≡ true) works.now }
 {
     works.iter().all(|work| work.is_over())
 }
 
-// Begins the next session of each lane whose session was cut.
-fn renewed(alloc: Global, works: Vec<LaneWork>) -> Result<Vec<LaneWork>, AllocError>
-    ensures { IfOk result (λ next. keys_of next.items ≡ keys_of works.items) }
+// Begins the next session of each work whose session was cut. The only error is running out of memory, also in a session.
+fn renewed<W: RoundWork>(alloc: Global, works: Vec<W>) -> Result<Vec<W>, AllocError>
+    ensures { IfOk result (λ next. map W.key next.items ≡ map W.key works.items) }
 {
+    if works.iter().any(|work| work.is_wanting()) {
+        return Err(AllocError);
+    }
     if !works.iter().any(|work| work.is_cut()) {
         return Ok(works);
     }
@@ -98,23 +94,39 @@ fn renewed(alloc: Global, works: Vec<LaneWork>) -> Result<Vec<LaneWork>, AllocEr
     Ok(next)
 }
 
-/// Rounds of these lanes, until all are over. What their work comes to stays. The only error is running out of memory.
-pub(crate) fn finished<R: Threads + Wait + Sync, G: Gate>(
+/// Rounds of these works, until all are over. What each comes to stays. It may wait without end, since rounds have no
+/// bound.
+///
+/// A round makes the passes of each work: of up to four works by `in_threads`, beside one another; of more by `in_turn`,
+/// and a thread for each processor takes several. Both are given the work's place and the work, and have to keep its key.
+/// Where no thread can be made the caller makes all passes.
+///
+/// # Errors
+///
+/// [`AllocError`] only when out of memory.
+pub fn finished<W, R, F, I>(
     rt: &R,
     alloc: Global,
-    gate: &G,
-    mut works: Vec<LaneWork>,
-) -> Result<Vec<LaneWork>, AllocError>
-    requires { LetsWorkers (G.lets gate.now) most_workers }
-    ensures keys { IfOk result (λ done. keys_of done.items ≡ keys_of works.items) }
-    ensures over { IfOk result (λ done. All (λ work. work.over ≡ true) done.items) }
+    mut works: Vec<W>,
+    in_threads: &F,
+    in_turn: &I,
+) -> Result<Vec<W>, AllocError>
+where
+    W: RoundWork,
+    R: Threads + Wait + Sync,
+    F: Fn(usize, &mut W) + Sync,
+    I: Fn(usize, &mut W) + Sync,
+    requires in_threads { KeepsKey W.key F.Fn in_threads.now }
+    requires in_turn { KeepsKey W.key I.Fn in_turn.now }
+    ensures keys { IfOk result (λ done. map W.key done.items ≡ map W.key works.items) }
+    ensures over { IfOk result (λ done. All (λ work. W.over work ≡ true) done.items) }
 {
     let threads = thread_count(rt);
     for _ in rt.forever() {
         if are_over(&works) {
             return Ok(works);
         }
-        round(rt, gate, threads, &mut works);
+        round(rt, threads, &mut works, in_threads, in_turn);
         works = renewed(alloc, works)?;
     }
     unreachable!()

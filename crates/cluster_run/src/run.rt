@@ -6,9 +6,8 @@ ghost use Rattle.step_kinds.specs.Runs.{run_shown};
 ghost use Rattle.cluster_run.specs.Lanes.{CanRun, most_workers};
 ghost use Rattle.cluster_run.specs.Runs.{IsFit, IsShown};
 
-use crate::group::next_group;
+use crate::group::{finished_group, next_group};
 use crate::parts::RunParts;
-use crate::rounds::finished;
 use crate::task_list::lanes_to_run;
 use io_edges::Gate;
 use std::alloc::{AllocError, Global};
@@ -50,7 +49,7 @@ pub fn run_plan<R: Threads + Wait + Sync, G: Gate>(
     let mut parts = RunParts::new(alloc);
     while let Some(first) = waiting.pop_front() {
         let open = next_group(alloc, first, &mut waiting)?;
-        let over = finished(rt, alloc, gate, open)?;
+        let over = finished_group(rt, alloc, gate, open)?;
         parts.add_all(alloc, over)?;
     }
     let RunParts { lanes, proofs } = parts;

@@ -2,5 +2,4 @@ mod EndOfSession
 mod NextFrame
 mod KeptItems
 mod StreamEnds
-mod StreamLists
 mod StreamsByPlan

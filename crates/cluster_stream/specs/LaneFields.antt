@@ -6,14 +6,14 @@ use Rattle.stream_model.specs.Receiver.{new_receiver}
 use Rattle.stream_model.specs.Resumed.{AreSessionsOf, Exchange, IsInOrder, acked_by, after_session}
 use Rattle.stream_model.specs.declared.Session.TheVariants.{Fresh}
 use Rattle.table_lane.specs.EndOfLane.{Shown}
+use Rattle.cluster_run.specs.LaneKeys.{LaneState}
 use Rattle.cluster_run.specs.Lanes.{most_lanes}
-use Rattle.cluster_stream.specs.Keys.{StreamState}
 use Rattle.cluster_stream.specs.Streams.{exchange_proofs}
 use Rattle.cluster_stream.specs.Workers.{SessionKey, first_workers}
 use Rattle.cluster_stream.specs.declared.numbers.LaneNumbers.{LaneNumbers}
 use Rattle.cluster_stream.specs.declared.lanes.StreamWork.TheInside as work
 
-abbrev pub state_of : work.Inside → StreamState
+abbrev pub state_of : work.Inside → LaneState
 state_of w = record {
   key = record { name = w.name; entries = w.entries; losses = w.losses; traffic = w.session.key.items };
   over = (w.ahead == 0) && (w.session.kept == length w.session.key.items) && not w.session.cut;

@@ -1,13 +1,19 @@
-//! Streams whose rings are open together.
+//! Streams whose rings are open together, and their rounds.
 
-ghost use Rattle.std.specs.Prelude.{◌≡◌, ◌≤◌, ◌++◌, ◌∷◌, length, IfOk};
+ghost use Rattle.std.specs.Prelude.{◌≡◌, ◌≤◌, ◌++◌, ◌∷◌, true, All, length, IfOk};
+ghost use Rattle.io_edges.specs.Gates.{LetsWorkers};
+ghost use Rattle.cluster_run.specs.LaneKeys.{keys_of};
 ghost use Rattle.cluster_run.specs.Lanes.{most_lanes};
-ghost use Rattle.cluster_stream.specs.Keys.{keys_of};
+ghost use Rattle.cluster_stream.specs.Workers.{most_stream_workers};
 
 use crate::lanes::StreamWork;
 use cluster_run::LaneTask;
+use cluster_run::rounds::finished;
+use io_edges::Gate;
 use std::alloc::{AllocError, Global};
 use std::collections::VecDeque;
+use std::sync::Wait;
+use std::thread::Threads;
 
 /// The rings of the streams that are open together, two of each, have at most so many entries in all.
 const MOST_OPEN: u32 = 1_000_000;
@@ -36,4 +42,29 @@ pub(crate) fn next_group(
         works.push(StreamWork::new(alloc, lanes, task)?)?;
     }
     Ok(works)
+}
+
+/// Rounds of the streams of a group, until all are over. What their work comes to stays. The only error is running out of
+/// memory.
+pub(crate) fn finished_group<R: Threads + Wait + Sync, G: Gate>(
+    rt: &R,
+    alloc: Global,
+    gate: &G,
+    works: Vec<StreamWork>,
+) -> Result<Vec<StreamWork>, AllocError>
+    requires { LetsWorkers (G.lets gate.now) most_stream_workers }
+    ensures keys { IfOk result (λ done. keys_of done.items ≡ keys_of works.items) }
+    ensures over { IfOk result (λ done. All (λ work. work.over ≡ true) done.items) }
+{
+    finished(
+        rt,
+        alloc,
+        works,
+        &|_, work: &mut StreamWork|
+            requires { LetsWorkers (G.lets gate.now) most_stream_workers }
+        { work.pass_in_threads(rt, gate) },
+        &|_, work: &mut StreamWork|
+            requires { LetsWorkers (G.lets gate.now) most_stream_workers }
+        { work.pass_in_turn(gate) },
+    )
 }

@@ -11,6 +11,7 @@ use crate::exchange::{StreamEnds, laws_of_sessions, next_ends};
 use crate::numbers::LaneNumbers;
 use crate::record::StreamRun;
 use crate::session::Session;
+use cluster_run::rounds::RoundWork;
 use cluster_run::{LaneTask, TaskParts};
 use io_edges::Gate;
 use resume_stream::{StreamReceiver, StreamSender};
@@ -66,23 +67,6 @@ impl StreamWork {
         })
     }
 
-    /// Whether its last session is whole.
-    pub(crate) fn is_over(&self) -> bool
-        ensures { result ≡ self.now.over }
-    {
-        self.ahead == 0 && self.session.kept() == self.session.total() && !self.session.is_cut()
-    }
-
-    /// Whether its session was cut.
-    pub(crate) fn is_cut(&self) -> bool {
-        self.session.is_cut()
-    }
-
-    /// Whether there was no memory for a frame.
-    pub(crate) fn is_wanting(&self) -> bool {
-        self.session.is_wanting()
-    }
-
     // With how many items kept the session is cut: its share of those that the stream lacks, where a loss of the link
     // is ahead.
     fn cut_after(&self) -> Option<usize> {
@@ -120,45 +104,6 @@ impl StreamWork {
         self.session.pass_in_turn(gate, cut_after);
     }
 
-    /// Where the session was cut and is not the last, ends it and begins the next one, from the item that was
-    /// acknowledged. The only error is running out of memory.
-    pub(crate) fn renewed(self, alloc: Global) -> Result<StreamWork, AllocError>
-        ensures { IfOk result (λ work. work.key ≡ self.key) }
-    {
-        if self.ahead == 0 || !self.session.is_cut() {
-            return Ok(self);
-        }
-        let StreamWork {
-            name,
-            numbers,
-            entries,
-            losses,
-            ahead,
-            session,
-            mut proofs,
-        } = self;
-        laws_of_sessions();
-        let total = session.total();
-        if let Err(error) = proofs.reserve(2) {
-            // One call drops all its fields: dropped at the return, each would be a step of this function's proof.
-            drop(session);
-            return Err(error);
-        }
-        let end = session.ended()?;
-        proofs.push_reserved(end.item_proof);
-        proofs.push_reserved(end.ack_proof);
-        let StreamEnds { sender, receiver } = next_ends(end.sender, end.receiver, end.acks);
-        Ok(StreamWork {
-            name,
-            numbers,
-            entries,
-            losses,
-            ahead: ahead - 1,
-            session: Session::new(alloc, numbers, entries, sender, receiver, total)?,
-            proofs,
-        })
-    }
-
     /// Ends a stream that is over: its record, and the proofs of its sessions. The only error is running out of memory.
     pub(crate) fn ended(self) -> Result<(StreamRun, Vec<LaneProof>), AllocError>
         requires { self.over ≡ true }
@@ -193,10 +138,64 @@ impl StreamWork {
     }
 }
 
-impl Model for StreamWork {
-    ghost use Rattle.cluster_stream.specs.Keys.{StreamState};
+impl RoundWork for StreamWork {
+    ghost key = { λ work. work.key };
 
-    ghost Value = { StreamState };
+    ghost over = { λ work. work.over };
+
+    fn is_over(&self) -> bool {
+        self.ahead == 0 && self.session.kept() == self.session.total() && !self.session.is_cut()
+    }
+
+    fn is_cut(&self) -> bool {
+        self.session.is_cut()
+    }
+
+    fn is_wanting(&self) -> bool {
+        self.session.is_wanting()
+    }
+
+    // The next session begins from the item that was acknowledged.
+    fn renewed(self, alloc: Global) -> Result<StreamWork, AllocError> {
+        if self.ahead == 0 || !self.session.is_cut() {
+            return Ok(self);
+        }
+        let StreamWork {
+            name,
+            numbers,
+            entries,
+            losses,
+            ahead,
+            session,
+            mut proofs,
+        } = self;
+        laws_of_sessions();
+        let total = session.total();
+        if let Err(error) = proofs.reserve(2) {
+            // One call drops all its fields: dropped at the return, each would be a step of this function's proof.
+            drop(session);
+            return Err(error);
+        }
+        let end = session.ended()?;
+        proofs.push_reserved(end.item_proof);
+        proofs.push_reserved(end.ack_proof);
+        let StreamEnds { sender, receiver } = next_ends(end.sender, end.receiver, end.acks);
+        Ok(StreamWork {
+            name,
+            numbers,
+            entries,
+            losses,
+            ahead: ahead - 1,
+            session: Session::new(alloc, numbers, entries, sender, receiver, total)?,
+            proofs,
+        })
+    }
+}
+
+impl Model for StreamWork {
+    ghost use Rattle.cluster_run.specs.LaneKeys.{LaneState};
+
+    ghost Value = { LaneState };
 
     ghost use Rattle.cluster_stream.specs.LaneFields.{state_of, IsWork};
 

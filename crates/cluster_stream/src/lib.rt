@@ -13,7 +13,6 @@ mod pair;
 mod parts;
 mod record;
 mod round;
-mod rounds;
 mod run;
 mod session;
 mod sink;

@@ -1,8 +1,8 @@
 //! The parts of a record while it is put together.
 
 ghost use Rattle.std.specs.Prelude.{◌≡◌, ◌++◌, ◌∷◌, [], true, List, All, OnOk, map};
-ghost use Rattle.cluster_run.specs.LaneKeys.{LaneKey};
-ghost use Rattle.cluster_stream.specs.Keys.{ComeTo, keys_of};
+ghost use Rattle.cluster_run.specs.LaneKeys.{LaneKey, ComeTo, keys_of};
+ghost use Rattle.cluster_stream.specs.Keys.{ComesTo};
 ghost use Rattle.cluster_stream.specs.Streams.{stream_shown};
 
 use crate::lanes::StreamWork;
@@ -32,7 +32,7 @@ impl StreamParts {
     // Adds a stream that is over after the others.
     fn add(&mut self, work: StreamWork) -> Result<(), AllocError>
         requires { work.over ≡ true }
-        ensures { OnOk result ((keys : List LaneKey) → ComeTo keys (map stream_shown self.old.lanes.items) self.old.proofs.items → ComeTo (keys ++ work.key ∷ []) (map stream_shown self.new.lanes.items) self.new.proofs.items) }
+        ensures { OnOk result ((keys : List LaneKey) → ComeTo ComesTo keys (map stream_shown self.old.lanes.items) self.old.proofs.items → ComeTo ComesTo (keys ++ work.key ∷ []) (map stream_shown self.new.lanes.items) self.new.proofs.items) }
     {
         let (lane, mut proofs) = work.ended()?;
         self.lanes.push(lane)?;
@@ -42,7 +42,7 @@ impl StreamParts {
     /// Adds streams that are over after the others, in order. The only error is running out of memory.
     pub(crate) fn add_all(&mut self, works: Vec<StreamWork>) -> Result<(), AllocError>
         requires { All (λ work. work.over ≡ true) works.items }
-        ensures { OnOk result ((keys : List LaneKey) → ComeTo keys (map stream_shown self.old.lanes.items) self.old.proofs.items → ComeTo (keys ++ keys_of works.items) (map stream_shown self.new.lanes.items) self.new.proofs.items) }
+        ensures { OnOk result ((keys : List LaneKey) → ComeTo ComesTo keys (map stream_shown self.old.lanes.items) self.old.proofs.items → ComeTo ComesTo (keys ++ keys_of works.items) (map stream_shown self.new.lanes.items) self.new.proofs.items) }
     {
         for work in works {
             self.add(work)?;

@@ -6,10 +6,9 @@ ghost use Rattle.cluster_run.specs.Lanes.{CanRun};
 ghost use Rattle.cluster_stream.specs.Streams.{AreResumed, streams_shown};
 ghost use Rattle.cluster_stream.specs.Workers.{most_stream_workers};
 
-use crate::group::next_group;
+use crate::group::{finished_group, next_group};
 use crate::parts::StreamParts;
 use crate::record::StreamRecord;
-use crate::rounds::finished;
 use cluster_run::lanes_to_run;
 use io_edges::Gate;
 use std::alloc::{AllocError, Global};
@@ -54,7 +53,7 @@ pub fn run_stream<R: Threads + Wait + Sync, G: Gate>(
     let mut parts = StreamParts::new(alloc);
     while let Some(first) = waiting.pop_front() {
         let open = next_group(alloc, lanes, first, &mut waiting)?;
-        let over = finished(rt, alloc, gate, open)?;
+        let over = finished_group(rt, alloc, gate, open)?;
         parts.add_all(over)?;
     }
     let StreamParts { lanes, proofs } = parts;

@@ -1,6 +1,5 @@
-use Rattle.std.proofs.Common.{◌≡◌}
-use Rattle.cluster_run.specs.LaneKeys.{keys_of}
+use Rattle.std.proofs.Common.{◌≡◌, map}
 use Rattle.cluster_run.proofs.rounds.finished.Given as goal
 
 abbrev pub invariant-loop : goal.invariant-loop
-invariant-loop g l = keys_of l.works.items ≡ keys_of l.fn.works.items
+invariant-loop g l = map g.W.RoundWork.key l.works.items ≡ map g.W.RoundWork.key l.fn.works.items

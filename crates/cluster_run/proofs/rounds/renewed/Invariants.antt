@@ -1,6 +1,5 @@
-use Rattle.std.proofs.Common.{◌≡◌}
-use Rattle.cluster_run.specs.LaneKeys.{keys_of}
+use Rattle.std.proofs.Common.{◌≡◌, map}
 use Rattle.cluster_run.proofs.rounds.renewed.Given as goal
 
 abbrev pub invariant-loop-work : goal.invariant-loop-work
-invariant-loop-work l = keys_of l.next.items ≡ keys_of l.yielded
+invariant-loop-work g l = map g.W.RoundWork.key l.next.items ≡ map g.W.RoundWork.key l.yielded

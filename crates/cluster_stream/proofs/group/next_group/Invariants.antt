@@ -1,5 +1,5 @@
 use Rattle.std.proofs.Common.{◌≡◌, ◌≤◌, ◌∷◌, ◌++◌, length}
-use Rattle.cluster_stream.specs.Keys.{keys_of}
+use Rattle.cluster_run.specs.LaneKeys.{keys_of}
 use Rattle.cluster_stream.proofs.group.next_group.Given as goal
 
 abbrev pub invariant-loop-entries : goal.invariant-loop-entries

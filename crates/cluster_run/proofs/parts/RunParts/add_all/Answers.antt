@@ -1,14 +1,9 @@
-use Rattle.std.proofs.Common.{◌∷◌, [], map, ◌++◌, List, sym, subst}
-use Rattle.std.proofs.lemmas.List.{map-append}
-use Rattle.step_kinds.specs.Runs.{lane_shown}
-use Rattle.cluster_run.specs.LaneKeys.{LaneKey, LaneState, ComeTo, keys_of}
+use Rattle.std.proofs.Common.{◌++◌}
+use Rattle.cluster_run.specs.LaneKeys.{ComesTo, keys_of}
 use Rattle.cluster_run.proofs.LaneLists.{added_together}
 use Rattle.cluster_run.proofs.parts.RunParts.add_all.Goals as goal
 
 pub loop-work-preserved : goal.loop-work-preserved
 loop-work-preserved c keys come =
-    let before = keys_of c.loop-work.yielded in
-    let after = c.add.new.self in
-    let added = c.in_ok-add.ensures (keys ++ before) (c.loop-work.invariant keys come) in
-    subst (λ (more : List LaneKey). ComeTo (keys ++ more) (map lane_shown after.lanes.items) after.proofs.items) (sym (map-append (λ (lane : LaneState). lane.key) c.loop-work.yielded (c.in-Some.work ∷ [])))
-    (added_together keys before c.in-Some.work.key _ _ added)
+    let added = c.in_ok-add.ensures (keys ++ keys_of c.loop-work.yielded) (c.loop-work.invariant keys come) in
+    added_together ComesTo keys c.loop-work.yielded c.in-Some.work _ _ added

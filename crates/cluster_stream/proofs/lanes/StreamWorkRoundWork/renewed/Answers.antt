@@ -1,8 +1,8 @@
 use Rattle.std.proofs.Common.{◌≡◌, ◌+◌, ◌-◌, length, true, refl, sym, ◌∙◌, ap, arith}
-use Rattle.cluster_stream.specs.Keys.{StreamState}
+use Rattle.cluster_run.specs.LaneKeys.{LaneState}
 use Rattle.cluster_stream.specs.Workers.{SessionState}
 use Rattle.cluster_stream.proofs.StreamEnds.{StreamLaws, key_is, next_can_begin, next_items, next_work}
-use Rattle.cluster_stream.proofs.lanes.StreamWork.renewed.Goals as goal
+use Rattle.cluster_stream.proofs.lanes.StreamWorkRoundWork.renewed.Goals as goal
 
 pub new-requires-clause-ends : goal.new-requires-clause-ends
 new-requires-clause-ends c =
@@ -30,4 +30,4 @@ pub returns : goal.returns
 returns c =
     let next = c.next_ends-sender in
     let items = ap (λ (s : SessionState). s.key.items) c.in_ok-new.ensures ∙ next_items c.self.inside c.in_ok-end.end next.result.sender c.in_ok-end.ensures next.ensures.sender in
-    key_is refl refl refl items ∙ ap (λ (s : StreamState). s.key) c.self.view_is
+    key_is refl refl refl items ∙ ap (λ (s : LaneState). s.key) c.self.view_is
