@@ -1,4 +1,4 @@
--- What status 0 means of each command but `run`, of which `Ends` says it.
+-- What status 0 means of the commands that run no threads: `Ends` says it of `run` and `stream`, and a check has no such law.
 use Rattle.std.specs.Prelude.{◌≡◌, ℕ, Some, Ok, List}
 use Rattle.io_edges.specs.Whole.{HoldsAll}
 use Rattle.step_kinds.specs.declared.plan.Plan.{Plan}

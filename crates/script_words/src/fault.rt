@@ -16,8 +16,8 @@ pub enum Cause {
     NotText,
     /// Line 1 isn't `ntb 1`, or there is no byte at all.
     BadHeader,
-    /// The first word may not stand in this part of the script, the number of words isn't one that it takes, or an option
-    /// isn't known.
+    /// The first word may not stand in this part of the script, the number of words isn't one that it takes, an
+    /// option isn't known, or another word stands where `stop=` or `start=` has to.
     UnknownWord,
     /// A number is misspelled, or outside its argument's range.
     BadNumber,
@@ -31,9 +31,11 @@ pub enum Cause {
     UnknownName,
     /// Bytes, an address or a kind are misspelled.
     BadHex,
-    /// An option's number is outside its range, or the numbers of a pair, of a device or of traffic don't go together.
+    /// The number of an option or of a device's threshold is outside its range, or the numbers of a pair, of a device or
+    /// of traffic don't go together.
     BadGeometry,
-    /// A limit on hosts, pairs, devices, switches, steps, bytes of a frame or traffic is passed by this line.
+    /// A limit on hosts, pairs, devices, switches, steps, bytes of a frame or of a poke, or traffic is passed by this
+    /// line.
     TooMany,
     /// A poke, or a write of a scratchpad that the transport uses, on a pair that isn't raw; or traffic on a pair that may
     /// have none.
