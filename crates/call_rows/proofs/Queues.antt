@@ -17,7 +17,7 @@ use Rattle.bridge_pair.specs.Calls.{after_post as after_posting}
 use Rattle.bridge_pair.specs.Writes.{memory_write}
 use Rattle.frame_ring.specs.Calls.{after_post, begin_answer as port_begin_answer, first_posted, frame_begun, next_begun, posted_by, where_begun}
 use Rattle.frame_ring.specs.Port.{PortState, unused_of}
-use Rattle.frame_ring.specs.PortView.{FitsRings, HasPagesIn, HasRoomIn, reaches, ring_posted, window_posted, with_room}
+use Rattle.frame_ring.specs.PortView.{FitsRings, HasPagesIn, HasRoomIn, IsLeftReady, reaches, ring_posted, window_posted, with_room}
 use Rattle.plan_model.specs.DeclaredPlans.{IsPair}
 use Rattle.queue_pair.specs.Gates.{after_begin, port_unless, sender_refusal}
 use Rattle.queue_pair.specs.Queue.{QueueState, fresh_queue, with_port}
@@ -36,7 +36,7 @@ fresh_is_on pair same = record {
   plan = same;
   fits = record { queues = λ h. refl; windows = λ h. refl; sizes = (lit≤ tt, lit≤ tt) };
   room = omega arith;
-  pages = record { writes = All-nil; flags = λ h. absurd (cc h); index_word = λ h. absurd (cc h) };
+  pages = record { writes = All-nil (IsLeftReady load_pair A (pages_of pair B)); flags = λ h. absurd (cc h); index_word = λ h. absurd (cc h) };
 }
 
 -- a begin

@@ -87,11 +87,7 @@ fn is_posted(alloc: Global, queue: &mut QueuePair, pair: &mut Pair) -> Result<bo
 }
 
 // Begins a frame of one byte.
-fn begin(
-    alloc: Global,
-    queue: &mut QueuePair,
-    pair: &mut Pair,
-) -> Result<BeginAnswer, AllocError>
+fn begin(alloc: Global, queue: &mut QueuePair, pair: &mut Pair) -> Result<BeginAnswer, AllocError>
     requires { IsQueueOn pair.old queue.old }
     ensures { OnOk result (IsQueueOn pair.new queue.new) }
 {

@@ -22,12 +22,10 @@ pub fn report_has_its_lines(alloc: Global) -> Result<bool, AllocError> {
 fn has_its_lines(alloc: Global, plan: &Plan) -> Result<bool, AllocError>
     requires { plan.now ≡ plan_of [] }
 {
-    let lines = [
-        LineAnswer {
-            line: 6,
-            answer: Answer::Ok,
-        },
-    ];
+    let lines = [LineAnswer {
+        line: 6,
+        answer: Answer::Ok,
+    }];
     let lane = LaneCount {
         name: LaneName {
             pair: 0,
