@@ -1,34 +1,20 @@
 -- What a begin and a post on a queue leave of what its calls need.
-use Rattle.std.proofs.Common.{◌≡◌, ◌∙◌, ℕ, ◌+◌, ◌-◌, ◌≤◌, Bool, true, false, Option, Some, None, List, [], ◌∷◌, length, refl, sym, ap, subst, arith, lit<, lit≤, if◌then◌else◌}
+use Rattle.std.proofs.Common.{◌≡◌, ◌∙◌, ℕ, ◌+◌, ◌-◌, ◌≤◌, Option, Some, None, List, length, refl, sym, ap, subst, arith, lit≤}
 use Rattle.std.proofs.lemmas.List.Elements.{All-nil}
 use Rattle.step_kinds.specs.Sides.{other_side}
 use Rattle.step_kinds.specs.declared.lanes.Begun.{Begun}
 use Rattle.step_kinds.specs.declared.lanes.Begun.TheVariants.{Ok as BegunOk}
 use Rattle.step_kinds.specs.declared.names.Side.{Side}
 use Rattle.step_kinds.specs.declared.names.Side.TheVariants.{A, B}
-use Rattle.step_kinds.specs.declared.plan.PairPlan.{PairPlan}
-use Rattle.step_kinds.specs.declared.steps.Label.{Label}
-use Rattle.step_kinds.specs.declared.steps.Label.TheVariants.{Chunk, Len, Ver, Flag, Down, Bell, Index, Pad, Raw}
-use Rattle.byte_model.specs.RingWrites.{WindowWrite}
-use Rattle.lane_model.specs.Lane.{Entry}
-use Rattle.posted_queue.specs.Flight.{Flight, given_back}
-use Rattle.bridge_pair.specs.Bridge.{Bridge, flight_of, pages_of, with_flight, with_pages}
-use Rattle.bridge_pair.specs.Calls.{after_post as after_posting}
-use Rattle.bridge_pair.specs.Writes.{memory_write}
-use Rattle.frame_ring.specs.Calls.{after_post, begin_answer as port_begin_answer, first_posted, frame_begun, next_begun, posted_by, where_begun}
+use Rattle.bridge_pair.specs.Bridge.{Bridge, flight_of, pages_of, with_pages}
+use Rattle.frame_ring.specs.Calls.{begin_answer as port_begin_answer, frame_begun, where_begun}
 use Rattle.frame_ring.specs.Port.{PortState, unused_of}
-use Rattle.frame_ring.specs.PortView.{FitsRings, HasPagesIn, HasRoomIn, IsLeftReady, reaches, ring_posted, window_posted, with_room}
-use Rattle.plan_model.specs.DeclaredPlans.{IsPair}
+use Rattle.frame_ring.specs.PortView.{FitsRings, HasPagesIn, IsLeftReady, with_room}
 use Rattle.queue_pair.specs.Gates.{after_begin, port_unless, sender_refusal}
-use Rattle.queue_pair.specs.Queue.{QueueState, fresh_queue, with_port}
+use Rattle.queue_pair.specs.Queue.{QueueState, fresh_queue}
 use Rattle.queue_pair.specs.declared.BeginAnswer.{BeginAnswer}
 use Rattle.traffic_plan.specs.Load.{load_pair}
-use Rattle.traffic_plan.proofs.Facade.{load_is_whole}
 use Rattle.call_rows.specs.Queues.{IsQueueOn}
-
--- The pair of a load is one that a script can declare.
-pub load_pair_is : IsPair load_pair
-load_pair_is = (load_is_whole 0 0 (lit≤ tt)).declared.pairs 0 (lit< tt)
 
 -- A fresh queue of a pair of a load may have its calls made.
 pub fresh_is_on : (pair : Bridge) → pair.plan ≡ load_pair → IsQueueOn pair (fresh_queue load_pair A 0)
@@ -38,8 +24,6 @@ fresh_is_on pair same = record {
   room = omega arith;
   pages = record { writes = All-nil (IsLeftReady load_pair A (pages_of pair B)); flags = λ h. absurd (cc h); index_word = λ h. absurd (cc h) };
 }
-
--- a begin
 
 begun_plan : (queue : QueueState) (new : PortState) (refusal : Option BeginAnswer) (begun : Begun) → new.plan ≡ queue.port.plan → new.side ≡ queue.port.side
     → ((port_unless refusal queue (where_begun queue.port new begun)).port.plan ≡ queue.port.plan) × ((port_unless refusal queue (where_begun queue.port new begun)).port.side ≡ queue.port.side)
@@ -73,48 +57,4 @@ begin_is_on queue new pair after frame pages is_on is rest ready =
       fits = subst FitsRings (sym plan) is_on.fits;
       room = subst (λ (side : Side). unused_of new.port ≤ (flight_of after side).spare) (sym side) room;
       pages = ready is_on.pages;
-    }
-
--- a post
-
-window_plan : (pair : Bridge) (side : Side) (label : Label) (write : WindowWrite) → (window_posted pair side label write).plan ≡ pair.plan
-window_plan pair side label write = at_test (reaches pair.plan side write.window) where
-  at_test : (there : Bool) → (if there then after_posting pair side (memory_write label write.window write.offset write.bytes) else with_flight pair side (given_back (flight_of pair side) 1)).plan ≡ pair.plan
-  at_test true = refl
-  at_test false = refl
-
-write_plan : (pair : Bridge) (side : Side) (entry : Entry) (label : Label) → (ring_posted pair side entry label).plan ≡ pair.plan
-write_plan pair side entry (Chunk q n part) = window_plan pair side _ _
-write_plan pair side entry (Len q n) = window_plan pair side _ _
-write_plan pair side entry (Ver q n) = window_plan pair side _ _
-write_plan pair side entry (Flag q n) = window_plan pair side _ _
-write_plan pair side entry (Down q n) = window_plan pair side _ _
-write_plan pair side entry (Bell q) = refl
-write_plan pair side entry (Index q n) = refl
-write_plan pair side entry (Pad i value) = refl
-write_plan pair side entry (Raw window offset len) = refl
-
-first_plan : (pair : Bridge) (side : Side) (entry : Entry) (todo : List Label) → (first_posted pair side entry todo).plan ≡ pair.plan
-first_plan pair side entry [] = refl
-first_plan pair side entry (label ∷ todo) = write_plan pair side entry label
-
-post_plan : (port : PortState) (pair : Bridge) → (posted_by port pair).plan ≡ pair.plan
-post_plan port pair = first_plan pair port.side (next_begun port.queue port.sending).entry (next_begun port.queue port.sending).todo
-
--- of numbers alone
-same_room : (spare unused unused_after spare_after : ℕ) → unused ≤ spare → spare_after + unused ≡ spare + unused_after → unused_after ≤ spare_after
-same_room spare unused unused_after spare_after room is = omega (arith, room, is)
-
--- A queue may have its calls made after a post.
-pub post_is_on : (queue new : QueueState) (pair after : Bridge) → IsQueueOn pair queue → new ≡ with_port queue (after_post queue.port) → after ≡ posted_by queue.port pair
-    → (flight_of after queue.port.side).spare + unused_of queue.port ≡ (flight_of pair queue.port.side).spare + unused_of new.port → HasPagesIn new.port after → IsQueueOn after new
-post_is_on queue new pair after is_on is posted spare ready =
-    let plan : new.port.plan ≡ queue.port.plan = ap (λ (queue : QueueState). queue.port.plan) is in
-    let side : new.port.side ≡ queue.port.side = ap (λ (queue : QueueState). queue.port.side) is in
-    let room : unused_of new.port ≤ (flight_of after queue.port.side).spare = same_room (flight_of pair queue.port.side).spare (unused_of queue.port) (unused_of new.port) (flight_of after queue.port.side).spare is_on.room spare in
-    record {
-      plan = ap (λ (pair : Bridge). pair.plan) posted ∙ post_plan queue.port pair ∙ is_on.plan ∙ sym plan;
-      fits = subst FitsRings (sym plan) is_on.fits;
-      room = subst (λ (side : Side). unused_of new.port ≤ (flight_of after side).spare) (sym side) room;
-      pages = ready;
     }
