@@ -5,11 +5,15 @@
 mod in_one_ring;
 mod of_loads;
 mod of_passes;
+mod of_queues;
+mod of_reports;
 mod of_worlds;
 
 use in_one_ring::{LaneRow, is_shown};
 use of_loads::load_has_its_steps;
 use of_passes::one_of_two_frames_goes_round;
+use of_queues::begun_frame_is_posted;
+use of_reports::report_has_its_lines;
 use of_worlds::all_items_come;
 use std::alloc::{AllocError, Global};
 use std::test::Fail;
@@ -21,15 +25,19 @@ enum Row {
     LoadHasItsSteps,
     AllItemsCome,
     OneOfTwoFramesGoesRound,
+    BegunFrameIsPosted,
+    ReportHasItsLines,
 }
 
-const ROWS: [Row; 6] = [
+const ROWS: [Row; 8] = [
     Row::OfLane(LaneRow::FrameComesWhole),
     Row::OfLane(LaneRow::LinkDownEntryStays),
     Row::OfLane(LaneRow::LostWriteNeverLands),
     Row::LoadHasItsSteps,
     Row::AllItemsCome,
     Row::OneOfTwoFramesGoesRound,
+    Row::BegunFrameIsPosted,
+    Row::ReportHasItsLines,
 ];
 
 fn main(rt: HostRuntime) -> Result<(), Fail> {
@@ -46,6 +54,8 @@ fn has_passed(alloc: Global, row: Row) -> Result<bool, AllocError> {
         Row::LoadHasItsSteps => load_has_its_steps(alloc),
         Row::AllItemsCome => all_items_come(alloc),
         Row::OneOfTwoFramesGoesRound => one_of_two_frames_goes_round(alloc),
+        Row::BegunFrameIsPosted => begun_frame_is_posted(alloc),
+        Row::ReportHasItsLines => report_has_its_lines(alloc),
     }
 }
 
@@ -59,6 +69,8 @@ fn text_of(row: Row) -> &'static str {
         Row::LoadHasItsSteps => "A load of one frame has its steps.",
         Row::AllItemsCome => "Both items come, although a session is lost.",
         Row::OneOfTwoFramesGoesRound => "Of two frames one goes round before the link is cut.",
+        Row::BegunFrameIsPosted => "A frame is begun once, and its five writes are posted.",
+        Row::ReportHasItsLines => "A report has a line for each answer and lane, and ends.",
     }
 }
 
