@@ -160,7 +160,6 @@ impl Cluster {
 
     // The next part of a frame is copied on a side and a queue, and a frame that is delivered with it arrives at the port
     // there.
-    #[inline(always)]
     fn copy(&mut self, own: LaneName) -> Result<Answer, AllocError>
         requires { IsQueueOf (plan_held self.old) own.pair own.from own.queue }
         ensures { HasStepped self.old self.new (Copy own.pair own.from own.queue) result }
