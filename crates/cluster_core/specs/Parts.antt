@@ -2,18 +2,12 @@
 use Rattle.std.specs.Prelude.{ℕ, ◌<◌, ◌≤◌, Bool, true, false, List, length, slice_index_or}
 use Rattle.std.specs.List.{All}
 use Rattle.step_kinds.specs.Limits.{most_ports}
-use Rattle.step_kinds.specs.Places.{step_place}
-use Rattle.step_kinds.specs.Subject.{subject_of}
 use Rattle.step_kinds.specs.declared.names.LaneName.{LaneName}
-use Rattle.step_kinds.specs.declared.places.QueueStep.TheVariants.{Copy as CopyThere}
-use Rattle.step_kinds.specs.declared.places.StepPlace.{StepPlace}
-use Rattle.step_kinds.specs.declared.places.StepPlace.TheVariants.{OnQueue, OnSwitch}
-use Rattle.step_kinds.specs.declared.places.SwitchStep.TheVariants.{Relay, Xnext}
 use Rattle.step_kinds.specs.declared.plan.DevPlan.{DevPlan}
 use Rattle.step_kinds.specs.declared.plan.Plan.{Plan}
 use Rattle.step_kinds.specs.declared.plan.SwitchPlan.{SwitchPlan}
 use Rattle.step_kinds.specs.declared.steps.Step.{Step}
-use Rattle.step_kinds.specs.declared.steps.Step.TheVariants.{Copy}
+use Rattle.step_kinds.specs.declared.steps.Step.TheVariants.{Copy, Relay, Xnext}
 use Rattle.plan_model.specs.DeclaredPlans.{IsDeviceOn}
 use Rattle.plan_model.specs.Plans.{dev_plan, no_switch}
 use Rattle.ledger_model.specs.Log.{is_on}
@@ -22,15 +16,11 @@ use Rattle.cluster_core.specs.declared.parts.StepPart.{StepPart}
 use Rattle.cluster_core.specs.declared.parts.StepPart.TheVariants.{Copies, OnBridges, Relays, Sends}
 use Rattle.cluster_core.specs.declared.ports.PortPlace.{PortPlace}
 
--- of a step on the pair of this number, by where on it the step is made
-abbrev pub part_by_place : ℕ → StepPlace → StepPart
-part_by_place pair (OnSwitch (Relay side queue switch port)) = Relays switch port
-part_by_place pair (OnSwitch (Xnext side queue dev)) = Sends (record { pair = pair; from = side; queue = queue })
-part_by_place pair (OnQueue side queue CopyThere) = Copies (record { pair = pair; from = side; queue = queue })
-part_by_place pair place = OnBridges
-
 abbrev pub part_of : Step → StepPart
-part_of step = part_by_place (subject_of step) (step_place step)
+part_of (Relay pair side queue switch port) = Relays switch port
+part_of (Xnext pair side queue dev) = Sends (record { pair = pair; from = side; queue = queue })
+part_of (Copy pair side queue) = Copies (record { pair = pair; from = side; queue = queue })
+part_of step = OnBridges
 
 -- a copy may deliver a frame that then arrives at a port
 abbrev pub may_arrive : Step → Bool

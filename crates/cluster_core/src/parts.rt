@@ -3,7 +3,7 @@
 ghost use Rattle.std.specs.Prelude.{◌≡◌};
 ghost use Rattle.cluster_core.specs.Parts.{part_of as part_by_step};
 
-use step_kinds::{LaneName, QueueStep, Step, StepPlace, SwitchStep};
+use step_kinds::{LaneName, Step};
 
 /// The part of a cluster that makes a step.
 #[derive(Clone, Copy)]
@@ -24,43 +24,55 @@ pub enum StepPart {
 pub fn part_of(step: &Step) -> StepPart
     ensures { result ≡ part_by_step step.now }
 {
-    let pair = step.subject();
-    match step.place() {
-        StepPlace::OnSwitch {
-            step: SwitchStep::Relay { switch, port, .. },
-        } => StepPart::Relays { switch, port },
-        StepPlace::OnSwitch {
-            step: SwitchStep::Xnext { side, queue, .. },
-        } => StepPart::Sends {
-            own: LaneName {
-                pair,
-                from: side,
-                queue,
-            },
+    match step {
+        Step::Relay { switch, port, .. } => StepPart::Relays {
+            switch: *switch,
+            port: *port,
         },
-        StepPlace::OnQueue {
+        Step::Xnext {
+            pair,
             side,
             queue,
-            step: QueueStep::Copy,
-        } => StepPart::Copies {
+            ..
+        } => StepPart::Sends {
             own: LaneName {
-                pair,
-                from: side,
-                queue,
+                pair: *pair,
+                from: *side,
+                queue: *queue,
             },
         },
-        StepPlace::OnQueue {
-            step: QueueStep::Begin { .. }
-            | QueueStep::QpDown
-            | QueueStep::Xbegin { .. }
-            | QueueStep::Post
-            | QueueStep::Look
-            | QueueStep::Clear
-            | QueueStep::Ack
-            | QueueStep::Wake { .. },
-            ..
-        }
-        | StepPlace::OnSide { .. }
-        | StepPlace::OnBridge { .. } => StepPart::OnBridges,
+        Step::Copy { pair, side, queue } => StepPart::Copies {
+            own: LaneName {
+                pair: *pair,
+                from: *side,
+                queue: *queue,
+            },
+        },
+        Step::Enable { .. }
+        | Step::Train { .. }
+        | Step::Break { .. }
+        | Step::DropDone { .. }
+        | Step::Clean { .. }
+        | Step::Offer { .. }
+        | Step::Check { .. }
+        | Step::Ready { .. }
+        | Step::Join { .. }
+        | Step::Begin { .. }
+        | Step::QpDown { .. }
+        | Step::Xbegin { .. }
+        | Step::Post { .. }
+        | Step::Land { .. }
+        | Step::Look { .. }
+        | Step::Clear { .. }
+        | Step::Ack { .. }
+        | Step::Wake { .. }
+        | Step::Irq { .. }
+        | Step::Mask { .. }
+        | Step::Unmask { .. }
+        | Step::Spad { .. }
+        | Step::Poke { .. }
+        | Step::ShowMem { .. }
+        | Step::ShowPad { .. }
+        | Step::ShowQueue { .. } => StepPart::OnBridges,
     }
 }
