@@ -1,5 +1,6 @@
 pub mod Facade
 mod FramesOfSession
+pub mod KnownPairs
 mod LaneEnds
 pub mod LaneLists
 mod PlacesOfLanes

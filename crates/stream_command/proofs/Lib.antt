@@ -1,2 +1,1 @@
-mod KnownPairs
 mod WholeStreams

@@ -1,12 +1,12 @@
 use Rattle.std.proofs.Common.{refl, ◌∙◌, ap}
 use Rattle.command_reply.specs.Output.{done}
-use Rattle.cluster_stream.specs.Streams.{streams_shown}
-use Rattle.stream_command.proofs.KnownPairs.{known_pairs}
+use Rattle.cluster_run.proofs.Facade.{known_pairs}
+use Rattle.cluster_stream.specs.Streams.{StreamShown, stream_shown, streams_shown}
 use Rattle.stream_command.proofs.WholeStreams.{resumed_on_steps, whole}
 use Rattle.stream_command.proofs.command.stream_script.Goals as goal
 
 pub streams_text-requires : goal.streams_text-requires
-streams_text-requires g c = record { known_pairs = known_pairs c.args.script.now.declared c.in_ok-streams.streams.lanes c.in_ok-streams.ensures.lanes }
+streams_text-requires g c = record { known_pairs = known_pairs stream_shown (λ (lane : StreamShown). lane.name) c.args.script.now.declared c.in_ok-streams.streams.lanes c.in_ok-streams.ensures.lanes }
 
 pub returns : goal.returns
 returns g c =

@@ -1,4 +1,4 @@
--- Each lane of a record of streams names a pair of the plan.
+-- Each lane with traffic is of a pair of the plan, and so is each lane of a record that has them in order.
 use Rattle.std.proofs.Common.{◌≡◌, ℕ, zero, suc, ◌+◌, ◌<◌, ◌≤◌, List, length, map, get_or, sym, ◌∙◌, ap, subst, arith}
 use Rattle.std.proofs.lemmas.List.{get_or-map, length-map}
 use Rattle.std.proofs.lemmas.List.Elements.{All-append, All-filter, All-map, All-nil}
@@ -9,8 +9,6 @@ use Rattle.step_kinds.specs.declared.names.Side.{Side}
 use Rattle.step_kinds.specs.declared.names.Side.TheVariants.{A, B}
 use Rattle.step_kinds.specs.declared.plan.Plan.{Plan}
 use Rattle.cluster_run.specs.Lanes.{has_traffic, lanes_in, lanes_of, traffic_lanes}
-use Rattle.cluster_stream.specs.Streams.{StreamShown, stream_shown}
-use Rattle.cluster_stream.specs.declared.record.StreamRun.{StreamRun}
 
 -- the lanes of a pair from a side
 abbrev lanes_from : ℕ → Side → List LaneName
@@ -34,16 +32,16 @@ traffic_known plan =
     All-filter (has_traffic plan.traffic) (λ (lane : LaneName). lane.pair < length plan.pairs) (lanes_in (length plan.pairs))
     (lanes_known 0 (length plan.pairs) (length plan.pairs) (omega arith))
 
--- Each lane of a record of streams whose lanes are the plan's lanes with traffic names a pair of the plan.
-pub known_pairs : (plan : Plan) (lanes : List StreamRun) → map (λ (lane : StreamShown). lane.name) (map stream_shown lanes) ≡ traffic_lanes plan
-    → All (λ (lane : StreamRun). lane.name.pair < length plan.pairs) lanes
-known_pairs plan lanes are =
-    let all : All (λ (lane : LaneName). lane.pair < length plan.pairs) (map (λ (lane : StreamShown). lane.name) (map stream_shown lanes)) =
+-- Each lane of a record whose lanes are the plan's lanes with traffic names a pair of the plan. What a record's lanes
+-- show, and the names of that, are handed in.
+pub known_pairs : {Run Shown : Type 0} (shown_of : Run → Shown) (name_of : Shown → LaneName) (plan : Plan) (runs : List Run) → map name_of (map shown_of runs) ≡ traffic_lanes plan
+    → All (λ run. (name_of (shown_of run)).pair < length plan.pairs) runs
+known_pairs shown_of name_of plan runs are =
+    let all : All (λ (lane : LaneName). lane.pair < length plan.pairs) (map name_of (map shown_of runs)) =
     subst (λ (names : List LaneName). All (λ (lane : LaneName). lane.pair < length plan.pairs) names) (sym are) (traffic_known plan) in
     λ k d below.
-    let within : k < length (map stream_shown lanes) = subst (λ many. k < many) (sym (length-map lanes stream_shown)) below in
-    let named : get_or (map (λ (lane : StreamShown). lane.name) (map stream_shown lanes)) k d.name ≡ (get_or lanes k d).name =
-    get_or-map (λ (lane : StreamShown). lane.name) (map stream_shown lanes) k (stream_shown d) d.name within
-    ∙ ap (λ (lane : StreamShown). lane.name) (get_or-map stream_shown lanes k d (stream_shown d) below) in
+    let within : k < length (map shown_of runs) = subst (λ many. k < many) (sym (length-map runs shown_of)) below in
+    let named : get_or (map name_of (map shown_of runs)) k (name_of (shown_of d)) ≡ name_of (shown_of (get_or runs k d)) =
+    get_or-map name_of (map shown_of runs) k (shown_of d) (name_of (shown_of d)) within ∙ ap name_of (get_or-map shown_of runs k d (shown_of d) below) in
     subst (λ (name : LaneName). name.pair < length plan.pairs) named
-    (all k d.name (subst (λ many. k < many) (sym (length-map (map stream_shown lanes) (λ (lane : StreamShown). lane.name))) within))
+    (all k (name_of (shown_of d)) (subst (λ many. k < many) (sym (length-map (map shown_of runs) name_of)) within))
