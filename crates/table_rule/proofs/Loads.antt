@@ -47,7 +47,7 @@ ReceiverTook before found after =
 -- A seat that knows of the cut still knows of it after each atomic step of sender, mover, receiver, way back or cut.
 pub cut_stays : CutStays
 cut_stays = record {
-  sees_link = λ before found after tells cut. view_keeps before after _ refl tells cut;
+  sees_link = λ before found after tells cut. view_keeps before after _ refl tells.0 cut;
   sees_index = λ before found after tells cut.
       let part = the_send before.0 in
       one_keeps before after (with_send before.0 (slot_claimed (index_loaded part found)), (head part, None) ∷ before.1) (with_send before.0 (index_loaded part found), before.1) (nat_lt 0 (free_by part found)) refl refl tells.1 cut;

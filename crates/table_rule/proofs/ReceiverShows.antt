@@ -1,5 +1,5 @@
--- The receiver's steps: look at the next entry, copy it whole, clear its flags, acknowledge it. What a step leaves as it
--- was is found by `assumption`, which lists only what is new.
+-- The receiver's steps: look at the next entry, copy it whole, clear its flags, acknowledge it. What a step leaves as
+-- it was is found by `assumption`, which lists only what is new.
 use Rattle.std.proofs.Common.{◌≡◌, ℕ, suc, ◌+◌, ◌%◌, ◌^◌, ◌<◌, ◌≤◌, false, List, [], ◌∷◌, ◌++◌, length, map, take, set, get_or, refl, sym, subst, ap, ◌∙◌, inl, inr, arith, length-append, append-nil, nat_lt, replicate}
 use Rattle.std.proofs.lemmas.Bool.{lt-ltb, le-ltb, cases_lt}
 use Rattle.std.proofs.Math.ListN.{get_or-map}

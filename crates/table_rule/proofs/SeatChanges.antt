@@ -14,8 +14,8 @@ use Rattle.table_rule.proofs.Order.{in_order}
 use Rattle.table_rule.proofs.Seats.{part_stays, part_changes}
 use Rattle.table_rule.proofs.WordLists.{Stores}
 
--- A seat that has this part sits at the table: the moment with that part is shown, and each part still has one seat once
--- another is put in its place.
+-- A seat that has this part sits at the table, which has two positions at least. The moment with that part is shown,
+-- and each part still has one seat once another is put in its place.
 pub record Sits (P : Type 0) (N : ℕ) (board : Board) (id : ℕ) (moment : P → Moment) (view : P → LaneView) (part : P) : Type 0 where
   pub two : 2 ≤ N
   pub now : IsMoment N (moment part) board

@@ -1,29 +1,34 @@
 -- The sender's atomic steps keep the rule and tell what they are to tell.
-use Rattle.std.proofs.Common.{◌≡◌, ℕ, ◌+◌, ◌-◌, ◌%◌, ◌^◌, ◌<◌, ◌≤◌, true, false, List, ◌∷◌, length, set, get_or, refl, sym, subst, ap, ◌∙◌, inl, inr, arith, mod-lt, Some, None, nat_lt}
+use Rattle.std.proofs.Common.{◌≡◌, ℕ, ◌+◌, ◌-◌, ◌%◌, ◌^◌, ◌<◌, ◌≤◌, true, false, List, ◌∷◌, length, set, get_or, refl, sym, subst, ap, ◌∙◌, inl, inr, arith, mod-lt, Some, None, IfSome, nat_lt}
+use Rattle.std.specs.Prelude.{if◌then◌else◌}
 use Rattle.std.proofs.lemmas.Bool.{cases_Bool, ltb-true}
 use mathlib.Core.Option.{none}
 use lib.ListN.{get_elem?}
 use Rattle.atomic_table.specs.Table.{Allows, takes}
 use Rattle.table_rule.specs.LaneNames.{free_entries, head_of, tail_of}
-use Rattle.table_rule.specs.Words.{posted_word, index_word, header_of}
-use Rattle.table_rule.specs.Views.{Bytes, SendPart, the_send, HasSend, with_send}
+use Rattle.table_rule.specs.Words.{posted_word, index_word, link_word, header_of, cut_word}
+use Rattle.table_rule.specs.Views.{Bytes, CutPart, SendPart, the_send, HasSend, with_send}
 use Rattle.table_rule.specs.Moment.{Moment, ShowsLane}
 use Rattle.table_rule.specs.Rule.{Content, Sitter, ShowsALane}
 use Rattle.table_rule.specs.Knowledge.{link_loaded, index_loaded, head, free_by, slot_claimed, frame_sent}
 use Rattle.table_rule.specs.Plays.{frame_in, sees_link, sees_index, stores_posted}
 use Rattle.table_rule.proofs.SeatChanges.{load_shows, load_keeps, store_shows, store_gives, sender_sits}
-use Rattle.table_rule.proofs.WordLists.{index_at, set_posted}
+use Rattle.table_rule.proofs.Seats.{part_too}
+use Rattle.table_rule.proofs.WordLists.{index_at, link_at, set_posted}
 use Rattle.table_rule.proofs.Order.{in_order}
 use Rattle.table_rule.proofs.SenderShows as sending
 
--- The rule of a table allows the sender to load a word, and then to know what it found as the link word.
-pub sees_link_allowed : (N slots id : ℕ) (me : Sitter) (i : ℕ) → HasSend me.0 → Allows (ShowsALane N) slots id me i (λ n. n) (sees_link me)
-sees_link_allowed N slots id me i has board h counted at fits =
+-- The rule of a table allows the sender to load the link word, and then to know what it found.
+pub sees_link_allowed : (N slots id : ℕ) (me : Sitter) (i : ℕ) → i ≡ link_word N → HasSend me.0 → Allows (ShowsALane N) slots id me i (λ n. n) (sees_link me)
+sees_link_allowed N slots id me i is has board h counted at fits =
     let part : SendPart = the_send me.0 in
     let m : Moment = record h.0 { send = part } in
     let seat = sender_sits N board h id me.0 at has in
-    let new : SendPart = link_loaded part (get_or board.words i 0) in
-    load_keeps (sees_link me (get_or board.words i 0)) me.1 new i seat seat.now.knows seat.now.shows refl
+    let found : ℕ = get_or board.words i 0 in
+    let word : found ≡ m.words.link = (λ j. get_or (seat.now.words j) (is j) 0) ∙ link_at N m.words seat.now.sized seat.two in
+    let surely : IfSome me.0.cut (λ (cut : CutPart). found ≡ (if cut.cut then cut_word else 0)) =
+    part_too (λ v. v.cut) board.views id me.0 m.cut (λ (cut : CutPart). found ≡ (if cut.cut then cut_word else 0)) at seat.now.seats.cut (word ∙ seat.now.shows.link) in
+    load_keeps (sees_link me found) me.1 (link_loaded part found) i seat seat.now.knows seat.now.shows (refl, surely)
 
 -- The rule of a table allows a sender without a slot to load the index word, and to take one where that shows room.
 pub sees_index_allowed : (N slots id : ℕ) (me : Sitter) (i : ℕ) → i ≡ index_word N → HasSend me.0 → (the_send me.0).claims ≡ false → Allows (ShowsALane N) slots id me i (λ n. n) (sees_index me)

@@ -78,6 +78,9 @@ module _ (N : ℕ) (w : Words) (sized : AreSized N w) (two : 2 ≤ N) where
   pub index_at : get_or (words_of w) (index_word N) 0 ≡ w.index
   index_at = at_last (index_word N) (1 + spacing) (omega arith)
 
+  pub link_at : get_or (words_of w) (link_word N) 0 ≡ w.link
+  link_at = at_last (link_word N) (2 * (1 + spacing)) (omega arith)
+
   pub set_posted : (n x : ℕ) → Stores N w (posted_word N n) x (record w { posted = set w.posted (n % N) x })
   set_posted n x = record { words = set-spaced w.posted from_headers N (n % N) x sized.posted (within n); sized = assumption (length-set w.posted (n % N) x ∙ sized.posted) }
 

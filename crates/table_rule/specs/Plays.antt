@@ -1,8 +1,8 @@
 -- What each atomic step tells: of the seat before, the number found, and the seat after.
-use Rattle.std.specs.Prelude.{◌≡◌, ℕ, ◌+◌, ◌-◌, ◌%◌, ◌^◌, ◌<◌, ◌≤◌, ◌==◌, nat_lt, List, [], ◌∷◌, length, take, Option, Some, None, IfSome, MatchBool}
+use Rattle.std.specs.Prelude.{◌≡◌, ℕ, ◌+◌, ◌-◌, ◌%◌, ◌^◌, ◌<◌, ◌≤◌, ◌==◌, nat_lt, List, [], ◌∷◌, length, take, Option, Some, None, IfSome, MatchBool, if◌then◌else◌}
 use Rattle.atomic_table.specs.Table.{rest}
 use Rattle.table_rule.specs.LaneNames.{done, version_of}
-use Rattle.table_rule.specs.Words.{header_of, spacing}
+use Rattle.table_rule.specs.Words.{header_of, cut_word, spacing}
 use Rattle.table_rule.specs.Views.{Bytes, SendPart, MovePart, RecvPart, the_send, the_move, the_recv, the_back, the_cut, with_send, with_move, with_recv, with_back, with_cut}
 use Rattle.table_rule.specs.ShownLane.{number_at, most_lane_frames}
 use Rattle.table_rule.specs.Rule.{Content, Sitter}
@@ -11,8 +11,11 @@ use Rattle.table_rule.specs.Knowledge.{link_loaded, index_loaded, head, free_by,
 abbrev pub Tells : Type 1
 Tells = Sitter → ℕ → Sitter → Type 0
 
+-- who has the cut's part too knows that the word found is the link word
 abbrev pub sees_link : Tells
-sees_link before found after = after ≡ (with_send before.0 (link_loaded (the_send before.0) found), before.1)
+sees_link before found after =
+    (after ≡ (with_send before.0 (link_loaded (the_send before.0) found), before.1))
+    × IfSome before.0.cut (λ cut. found ≡ (if cut.cut then cut_word else 0))
 
 -- where the index word shows room, the slot of the next entry, empty, goes to the sender
 abbrev pub sees_index : Tells
@@ -60,8 +63,9 @@ stores_header word before found after =
 abbrev pub stores_flag : Tells
 stores_flag before found after = after ≡ (with_move before.0 (flag_stored (the_move before.0)), rest before.1)
 
--- Where the flag is up, the slot of the next entry goes to the receiver. Who has the mover's part too knows whether
--- it is; who has the sender's part too knows that what was received is how what was sent begins.
+-- Where the flag is up, the slot of the next entry goes to the receiver. Who has the mover's part too knows that it is
+-- up where the mover has stored it. Who has the sender's part too knows that what was received is how what was sent
+-- begins.
 abbrev pub sees_flag : Tells
 sees_flag before found after =
     let part = the_recv before.0 in

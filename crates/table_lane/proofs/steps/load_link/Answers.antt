@@ -1,8 +1,9 @@
-use Rattle.std.proofs.Common.{arith}
+use Rattle.std.proofs.Common.{arith, sym, ap, ◌∙◌}
+use Rattle.table_rule.specs.Words.{link_word}
 use Rattle.table_rule.proofs.Facade.{sees_link_allowed}
 use Rattle.table_lane.proofs.steps.load_link.Goals as goal
 
 pub load-requires : goal.load-requires
 load-requires c =
     let t = c.requires.table.1 in
-    (c.requires.table.0, omega (arith, t.words), sees_link_allowed _ _ _ _ _ c.requires.part)
+    (c.requires.table.0, omega (arith, t.words), sees_link_allowed _ _ _ _ _ (c.link_word.ensures ∙ ap link_word (sym t.key)) c.requires.part)

@@ -1,10 +1,10 @@
 use Rattle.table_rule.proofs.SplitsAndJoins.{splits_are_no_steps, joins_are_no_steps}
 use Rattle.table_rule.proofs.laws.others_are_no_steps.Goals as goal
 
--- src/laws.rt:60:1
+-- a split of a seat is no step of the lane
 pub returns-clause-splits : goal.returns-clause-splits
 returns-clause-splits c = splits_are_no_steps
 
--- src/laws.rt:60:1
+-- a join of two seats is no step of the lane
 pub returns-clause-joins : goal.returns-clause-joins
 returns-clause-joins c = joins_are_no_steps
