@@ -1,6 +1,6 @@
 //! A path: two sides that one bridge joins, and the link between them.
 
-ghost use Rattle.std.specs.Prelude.{◌≡◌, ◌+◌, ◌≤◌, length, IfOk, OnOk, OnErr, alloc_error};
+ghost use Rattle.std.specs.Prelude.{◌≡◌, ◌+◌, ◌≤◌, true, length, IfOk, OnOk, OnErr, alloc_error};
 ghost use Rattle.std.specs.Result.{result_err};
 ghost use Rattle.step_kinds.specs.Limits.{most_write_bytes};
 ghost use Rattle.plan_model.specs.Link.{is_up};
@@ -13,10 +13,11 @@ use std::alloc::{AllocError, Global};
 use std::marker::Model;
 use step_kinds::{Frame, Side};
 
-/// Two sides that one bridge joins: the link, and of each side its memory of 4,096 bytes, what it has in flight to its
-/// peer, and how many reads it made. Contracts see these, all in flight as lists, the oldest first.
+/// Two sides that one bridge joins. A path has the link, and of each side its memory of 4,096 bytes, what it has in
+/// flight to its peer, and how many reads it made. Contracts see these, all in flight as lists, the oldest first.
 ///
-/// What travels from a side to its peer is its posted writes, its read requests and the completions of its peer's reads.
+/// What travels from a side to its peer is its posted writes, its read requests and the completions of its peer's
+/// reads.
 #[derive(Drop)]
 pub struct Path {
     alloc: Global,
@@ -43,12 +44,12 @@ impl Path {
     }
 
     /// The side posts a write of 1 to 128 bytes to its peer's memory from the address `at` on, relaxed or strict. All
-    /// bytes have to lie in the memory. [`PostAnswer::LinkDown`] comes exactly where the link isn't up, and the write is
-    /// lost.
+    /// bytes have to lie in the memory. [`PostAnswer::LinkDown`] comes exactly where the link isn't up, and the write
+    /// is lost.
     ///
     /// # Errors
     ///
-    /// [`AllocError`] only when out of memory, and then nothing changes.
+    /// [`AllocError`] only when out of memory and the link is up, and then nothing changes.
     pub fn write(
         &mut self,
         side: Side,
@@ -62,6 +63,7 @@ impl Path {
         ensures answer { IfOk result (λ answer. answer ≡ post_answer self.old) }
         ensures after { OnOk result (self.new ≡ after_post self.old side at bytes.now relaxed) }
         ensures err { OnErr result (self.new ≡ self.old) }
+        ensures wants { OnErr result (is_up self.old.link ≡ true) }
     {
         if !self.is_up() {
             return Ok(PostAnswer::LinkDown);
@@ -81,7 +83,8 @@ impl Path {
     ///
     /// # Errors
     ///
-    /// [`AllocError`] only when out of memory, and then nothing changes. It comes also to a side's 2^64th read.
+    /// [`AllocError`] only when out of memory and the link is up, and then nothing changes. It comes also to a side's
+    /// 2^64th read.
     pub fn read(&mut self, side: Side, at: u32, len: u32) -> Result<ReadAnswer, AllocError>
         requires some { 1 ≤ len }
         requires few { len ≤ most_read_bytes }
@@ -89,6 +92,7 @@ impl Path {
         ensures answer { IfOk result (λ answer. answer ≡ read_answer self.old side) }
         ensures after { OnOk result (self.new ≡ after_read self.old side at len) }
         ensures err { OnErr result (self.new ≡ self.old) }
+        ensures wants { OnErr result (is_up self.old.link ≡ true) }
     {
         if !self.is_up() {
             return Ok(ReadAnswer::LinkDown);
@@ -102,11 +106,12 @@ impl Path {
 
     /// Lands what the side has in flight at this place, counted from 0 for the oldest. It takes no memory.
     ///
-    /// [`PathLand::Nothing`] comes exactly where no more than `place` are in flight, and [`PathLand::Blocked`] where it
-    /// may not pass one of those before it (PCI Express Base 4.0, section 2.4); both change nothing. Else it leaves the
-    /// list. A write is stored in the peer's memory. A read request's bytes are all read at once from the peer's memory,
-    /// and the peer posts its completions of 128 bytes each, the last one shorter; they are lost where the link isn't up.
-    /// A completion is handed to the peer, which gets all bytes of its read with the last one.
+    /// [`PathLand::Nothing`] comes exactly where no more than `place` are in flight. [`PathLand::Blocked`] comes
+    /// exactly where what stands there may not pass one of those before it (PCI Express Base 4.0, section 2.4). Both
+    /// change nothing. Else what stands there leaves the list. A write is stored in the peer's memory. A read request's
+    /// bytes are all read at once from the peer's memory. The peer posts its completions of 128 bytes each, the last
+    /// one with the rest; they are lost where the link isn't up. A completion is handed to the peer, which gets all
+    /// bytes of its read with the last one.
     ///
     /// It looks at what stands before the place, and at the front costs the same however much is in flight.
     pub fn land(&mut self, side: Side, place: usize) -> PathLand

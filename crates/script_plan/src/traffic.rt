@@ -1,6 +1,6 @@
 //! The traffic that the lines so far give, with its counters.
 
-ghost use Rattle.std.specs.Prelude.{◌≡◌, ◌∷◌, [], ◌++◌, ◌+◌, ◌*◌, ◌%◌, ◌<◌, ◌≤◌, ◌&&◌, length, map, sum, count_by, nat_le, IfOk, OnOk};
+ghost use Rattle.std.specs.Prelude.{◌≡◌, ◌∷◌, [], ◌++◌, ◌+◌, ◌*◌, ◌%◌, ◌<◌, ◌≤◌, ◌&&◌, length, map, sum, count_by, nat_le, IfOk, OnErr, OnOk};
 ghost use Rattle.step_kinds.specs.Limits.{most_frame_bytes, most_traffic_frames, most_traffic_bytes, most_breaks};
 ghost use Rattle.step_kinds.specs.declared.plan.Traffic.TheVariants.{Send, Break};
 ghost use Rattle.script_words.specs.Compact.{flood_of};
@@ -34,7 +34,7 @@ impl TrafficList {
         }
     }
 
-    /// Whether so many frames of so many bytes in all stay within the limits.
+    /// Whether the traffic stays within the limits with so many more frames of so many bytes in all.
     pub fn has_room(&self, frames: u64, bytes: u64) -> bool
         ensures { result ≡ (nat_le (sum (map frames_in self.now) + frames) most_traffic_frames && nat_le (sum (map bytes_in self.now) + bytes) most_traffic_bytes) }
     {
@@ -42,7 +42,7 @@ impl TrafficList {
             && bytes <= MOST_TRAFFIC_BYTES - self.bytes
     }
 
-    /// How many link losses of the pair there are.
+    /// How many link losses of the pair there are. Its number has to be below 16.
     pub fn breaks_of(&self, pair: u32) -> u32
         requires { pair < 16 }
         ensures value { result ≡ count_by (is_break_of pair) self.now }
@@ -51,11 +51,13 @@ impl TrafficList {
         self.breaks[pair as usize]
     }
 
-    /// Adds a frame. The only error is running out of memory, and then nothing is added.
+    /// Adds a frame, with which the traffic is within its limits of frames and bytes. The only error is running out of
+    /// memory, and then nothing is added.
     pub fn push_frame(&mut self, lane: LaneName, frame: Frame) -> Result<(), AllocError>
         requires frames { sum (map frames_in self.old) + 1 ≤ most_traffic_frames }
         requires bytes { sum (map bytes_in self.old) + length frame ≤ most_traffic_bytes }
-        ensures { OnOk result (self.new ≡ self.old ++ Send lane frame ∷ []) }
+        ensures after { OnOk result (self.new ≡ self.old ++ Send lane frame ∷ []) }
+        ensures err { OnErr result (self.new ≡ self.old) }
     {
         let len = frame.len() as u64;
         self.items.push(Traffic::Send { lane, frame })?;
@@ -64,19 +66,21 @@ impl TrafficList {
         Ok(())
     }
 
-    /// Adds a link loss of a pair. The only error is running out of memory, and then nothing is added.
+    /// Adds a link loss of a pair, whose number is below 16, to fewer than 100. The only error is running out of
+    /// memory, and then nothing is added.
     pub fn push_break(&mut self, pair: u32) -> Result<(), AllocError>
         requires pair { pair < 16 }
         requires few { count_by (is_break_of pair) self.old < most_breaks }
-        ensures { OnOk result (self.new ≡ self.old ++ Break pair ∷ []) }
+        ensures after { OnOk result (self.new ≡ self.old ++ Break pair ∷ []) }
+        ensures err { OnErr result (self.new ≡ self.old) }
     {
         self.items.push(Traffic::Break { pair })?;
         self.breaks[pair as usize] += 1;
         Ok(())
     }
 
-    /// Adds so many frames of so many bytes each. The only error is running out of memory, and then some of them may be
-    /// added.
+    /// Adds so many frames of so many bytes each, at most 65,536. With them the traffic is within its limits of frames
+    /// and bytes. The only error is running out of memory, and then some of them may be added.
     pub fn push_flood(
         &mut self,
         alloc: Global,

@@ -15,6 +15,6 @@ pub loop-i-preserved : goal.loop-i-preserved
 loop-i-preserved c =
     let e = flood_of_more c.args.lane c.loop-i.i c.args.len in
     let f = c.in_ok-frame.ensures in
-    let m = c.in_ok-push_frame.ensures in
+    let m = c.in_ok-push_frame.ensures.after in
     let i = c.loop-i.invariant in
     rw (m, i, f, append_assoc, ← e)
