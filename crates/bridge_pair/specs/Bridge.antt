@@ -1,5 +1,5 @@
--- A pair as its two hosts and the bridge between them make it: bytes, registers, writes in flight, and what each side has
--- reached in the handshake.
+-- A pair as its two hosts and the bridge between them make it: bytes, registers, writes in flight, and what each side
+-- has reached in the handshake.
 use Rattle.std.specs.Prelude.{◌≡◌, ℕ, ◌+◌, ◌*◌, ◌^◌, ◌<◌, ◌≤◌, All, List, length}
 use Rattle.step_kinds.specs.Sides.{other_side}
 use Rattle.step_kinds.specs.declared.names.Side.{Side}

@@ -31,7 +31,7 @@ arrived bridge side (AtAddress at bytes) = with_bytes bridge side (written at by
 arrived bridge side (AtPad index value) = with_pads bridge side (slice_set (pads_of bridge side) index value)
 arrived bridge side (AtBell bit) = with_bells bridge side (with_pending (bells_of bridge side) (with_bit (bells_of bridge side).pending bit))
 
--- what comes of landing the write at a place of those that a side posted
+-- what comes of landing the write at a place of those that a side has in flight
 abbrev pub landing : Bridge → Side → ℕ → LandAnswer Flying
 landing bridge side place = land_answer flying_order (flight_of bridge side) place
 

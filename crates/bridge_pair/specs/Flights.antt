@@ -23,7 +23,7 @@ pub record Flying : Type 0 where
 abbrev pub flying_order : Flying → Order
 flying_order flying = flying.order
 
--- a side's write goes through a window that its peer has, and stays within the window's size and the peer's memory
+-- a side's write goes through a window that its peer has, and stays within the window's size and the peer's cap
 abbrev pub Translates : PairPlan → Side → Target → Type 0
 Translates plan side (ThroughWindow window offset bytes) =
     (window < (side_plan plan (other_side side)).windows) × (offset + length bytes ≤ min (side_plan plan side).size (side_plan plan (other_side side)).cap)

@@ -20,7 +20,7 @@ use Rattle.bridge_pair.specs.Ends.{bytes_after}
 use Rattle.bridge_pair.specs.Links.{no_book}
 use Rattle.bridge_pair.specs.declared.book.SideBook.{SideBook}
 
--- a side that has the peer's whole offer, and on which all queues are ready and joined
+-- a side that is up and has posted its whole offer, and on which all queues are ready and joined
 abbrev pub whole_book : PairPlan → Side → SideBook
 whole_book plan side =
     record { up = true; ready = all_below (side_plan plan side).queues; joined = all_below (side_plan plan side).queues; offered = offer_length plan side }

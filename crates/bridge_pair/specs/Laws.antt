@@ -9,7 +9,8 @@ use Rattle.bridge_pair.specs.Links.{after_clean, after_cut, after_drop, after_en
 use Rattle.bridge_pair.specs.Writes.{PostedWrite}
 use Rattle.bridge_pair.specs.declared.book.SideBook.{SideBook}
 
--- the plan stays, and so does all that was promised: the pages of both memories, and room for as many writes of each side
+-- the plan stays, and so does all that was promised: the pages of both memories, and room for as many writes of each
+-- side
 pub record KeepsPromises (old new : Bridge) : Type 0 where
   pub plan : new.plan ≡ old.plan
   pub pages : (side : Side) → pages_of new side ≡ pages_of old side

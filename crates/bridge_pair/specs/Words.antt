@@ -1,4 +1,4 @@
--- The index words of a side, which say that no entry is taken.
+-- The pages of a side's index words.
 use Rattle.std.specs.Prelude.{◌≡◌, ℕ, ◌<◌, true, List, Contains}
 use Rattle.byte_model.specs.Addresses.{own_index_word}
 use Rattle.host_memory.specs.Memory.{ArePromised, Touches}

@@ -22,7 +22,7 @@ pad_write index value = record { label = Pad index value; target = ToPad index v
 abbrev pub bell_write : ℕ → PostedWrite
 bell_write queue = record { label = Bell queue; target = ToBell queue }
 
--- a write to memory has a byte and few of them; there are 16 scratchpads, and a doorbell has 32 bits
+-- a write to memory has 1 to 128 bytes; there are 16 scratchpads, and a doorbell has 32 bits
 abbrev pub IsTarget : Target → Type 0
 IsTarget (ThroughWindow window offset bytes) = (1 ≤ length bytes) × (length bytes ≤ most_write_bytes)
 IsTarget (ToPad index value) = index < 16

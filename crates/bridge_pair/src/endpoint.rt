@@ -28,8 +28,8 @@ use std::marker::Model;
 use step_kinds::limits::MOST_WRITE_BYTES;
 use step_kinds::{Label, PairPlan, Side};
 
-/// What lies at one side of a pair, its scratchpads, doorbell and memory, and what is in flight towards it. For each write that
-/// is promised there is a buffer, since it may have more bytes than stand in place.
+/// What lies at one side of a pair, its scratchpads, doorbell and memory, and what is in flight towards it. For each
+/// write that is promised there is a buffer, since it may have more bytes than stand in place.
 #[derive(Drop)]
 pub struct Endpoint {
     pads: Pads,
@@ -44,7 +44,8 @@ impl Endpoint {
     ghost use Rattle.std.specs.Borrow.{sem};
     ghost use Rattle.bridge_pair.specs.Lending.{LendsBells};
 
-    /// An end with `len` bytes of memory, to which nothing has come.
+    /// An end with `len` bytes of memory, to which nothing has come. The only error comes where `len` is 2^63 or more,
+    /// as from [`Memory::new`].
     pub fn new(alloc: Global, len: u64) -> Result<Endpoint, AllocError>
         ensures { IfOk result (λ end. end ≡ fresh_end len) }
     {
@@ -58,7 +59,7 @@ impl Endpoint {
         })
     }
 
-    /// An end in the same state, with the same promises.
+    /// An end in the same state, with the same promises. The only error is running out of memory.
     pub fn copy_of(&self, alloc: Global) -> Result<Endpoint, AllocError>
         ensures { IfOk result (λ copy. copy ≡ self.now) }
     {

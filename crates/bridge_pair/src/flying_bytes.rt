@@ -23,8 +23,8 @@ enum Kept {
     Many { buffer: Buffer },
 }
 
-/// The bytes of a write in flight, at most 128. Most writes are of a word, which stands in place, so that a write in flight is
-/// small; more bytes stand in a buffer. Contracts see their list.
+/// The bytes of a write in flight, at most 128. Most writes are of a word, which stands in place, so that a write in
+/// flight is small; more bytes stand in a buffer. Contracts see their list.
 #[derive(Drop)]
 pub struct FlyingBytes {
     kept: Kept,
@@ -59,7 +59,7 @@ impl FlyingBytes {
         }
     }
 
-    /// The same bytes, in a buffer of their own where they stand in one.
+    /// The same bytes, in a buffer of their own where they stand in one. The only error is running out of memory.
     pub fn copy_of(&self, alloc: Global) -> Result<FlyingBytes, AllocError>
         ensures { IfOk result (λ copy. copy ≡ self.now) }
     {

@@ -1,4 +1,5 @@
-//! What stays promised while calls are made that promise nothing. Each function here does nothing: its clause is the law.
+//! What stays promised while calls are made that promise nothing. Each function here does nothing: its clause is the
+//! law.
 
 ghost use Rattle.bridge_pair.specs.Laws.{
   LandingKeepsPromises,

@@ -36,8 +36,8 @@ use std::marker::Model;
 use std::rc::Rc;
 use step_kinds::{Label, PairPlan, Side};
 
-/// A pair: two sides with their memories and registers, the bridge between them and the link. Contracts see it as a record
-/// of all that. A copy shares the plan.
+/// A pair: two sides with their memories and registers, the bridge between them and the link. Contracts see it as a
+/// record of all that. A copy shares the plan.
 #[derive(Drop)]
 pub struct Pair {
     plan: Rc<PairPlan, Global>,
@@ -60,9 +60,11 @@ impl Pair {
     ghost use Rattle.bridge_pair.specs.Links.{after_clean, after_cut, after_drop, after_enable, after_train};
     ghost use Rattle.bridge_pair.specs.Same.{EndsLandAs, HasSameEnds, IsSameBridge, LandsAs};
 
-    /// The pair of a plan before any step, with nothing in flight. Its memories are zero and its link is down; where the plan
-    /// says that the pair starts up, all is as after a whole handshake in session 1: the scratchpads have the peer's offer,
-    /// all queues are ready and joined on both sides, and the index words say that no entry is taken.
+    /// The pair of a plan before any step, with nothing in flight. Its memories are zero and its link is down, unless
+    /// the plan says that the pair starts up. Then all is as after a whole handshake in session 1. The scratchpads have
+    /// the peer's offer and ready queues, all queues are ready and joined on both sides, and the index words say that
+    /// no entry is taken. Their pages are promised, and no others; in a pair that starts down none is. The plan has to
+    /// be one that a script can declare.
     ///
     /// # Errors
     ///
@@ -127,9 +129,9 @@ impl Pair {
         })
     }
 
-    /// The plan of the pair, which never changes. The clause `law` has what is so of every pair: its plan is one that a
-    /// script can declare, its memories have the plan's bytes, there are 16 scratchpads at each side, and each write in
-    /// flight has its place at the peer.
+    /// The plan of the pair, which never changes. The clause `law` has what is so of every pair. Its plan is one that a
+    /// script can declare, and its memories have the plan's bytes. Each side has 16 scratchpads, a doorbell of 32 bits,
+    /// and a book of its own queues and offer. Each write in flight has its place at the peer.
     pub fn plan(&self) -> &PairPlan
         ensures value { result.now ≡ self.now.plan }
         ensures law { IsBridge self.now }
@@ -140,16 +142,16 @@ impl Pair {
     }
 
     /// Whether two pairs are in the same state: link, books, scratchpads, doorbells, each byte of both memories and all
-    /// writes in flight are the same. What is promised may differ, and plans aren't compared. Pages that neither memory has
-    /// aren't looked at one by one. It takes no memory.
+    /// writes in flight are the same. What is promised may differ, and plans aren't compared. Pages that neither memory
+    /// has aren't looked at one by one. It takes no memory.
     pub fn is_same(&self, other: &Pair) -> bool
         ensures { IsTrue result ↔ IsSameBridge self.now other.now }
     {
         self.has_same_link(other) && self.has_same_books(other) && self.has_same_ends(other)
     }
 
-    /// Whether the write at this place of those that a side has in flight may land, and the pair is then in the same state
-    /// as another, as [`Pair::is_same`] has it. It is found out without landing the write, and takes no memory.
+    /// Whether the write that a side has in flight at this place may land, and the pair is then in the same state as
+    /// another, as [`Pair::is_same`] has it. It is found out without landing the write, and takes no memory.
     pub fn lands_as(&self, side: Side, place: usize, other: &Pair) -> bool
         ensures { IsTrue result ↔ LandsAs self.now side place other.now }
     {
@@ -159,10 +161,12 @@ impl Pair {
     }
 
     /// A pair in the same state, with the same promises: the same pages of both memories, and as much room for writes.
+    /// The two share the plan.
     ///
     /// # Errors
     ///
-    /// [`AllocError`] from out of memory, or where the plan has as many copies as can be counted.
+    /// [`AllocError`] from out of memory, or where `usize::MAX` pairs share the plan already, since its [`Rc`] can't
+    /// count one more. No memory has room for so many.
     pub fn copy_of(&self, alloc: Global) -> Result<Pair, AllocError>
         ensures { IfOk result (λ copy. copy ≡ self.now) }
     {
@@ -235,7 +239,8 @@ impl Pair {
     ///
     /// # Errors
     ///
-    /// [`AllocError`] from out of memory alone, and then nothing changes.
+    /// [`AllocError`] from out of memory, or where the side's flight can't take so many, as
+    /// [`posted_queue::Queue::promise`] has it. Then nothing changes.
     pub fn promise(&mut self, side: Side, more: usize) -> Result<(), AllocError>
         ensures ok { OnOk result (self.new ≡ with_flight self.old side (promised (flight_of self.old side) more)) }
         ensures err { OnErr result (self.new ≡ self.old) }
@@ -258,7 +263,8 @@ impl Pair {
     }
 
     /// Promises each page that `len` bytes of a side's memory touch, from the address `at` on, so that they may be
-    /// written. They have to lie in the memory. What was promised before stays so, and no byte changes.
+    /// written. They have to lie in the memory. What was promised before stays so, and no byte changes. Where all these
+    /// pages were promised before, nothing is done, and the answer is `Ok`.
     ///
     /// # Errors
     ///
@@ -277,8 +283,8 @@ impl Pair {
         }
     }
 
-    /// A side posts a write, for which room was promised. Its target translates, and each page that its bytes touch at the
-    /// peer was promised.
+    /// A side posts a write, for which room was promised. Bytes go through a window that the peer has. They lie within
+    /// the side's `size` and the peer's `cap`, and each page that they touch at the peer was promised.
     ///
     /// While the link is up the write is in flight after all others of the side. Else it is lost without a word, as
     /// posted writes are, and its promise is given back. It takes no memory.
@@ -352,12 +358,13 @@ impl Pair {
         }
     }
 
-    /// Lands the write at this place of those that a side has in flight, counted from 0 for the one that was posted first,
-    /// and answers its label: its bytes are stored in the peer's memory, or its scratchpad or doorbell bit is set there.
+    /// Lands the write at this place of those that a side has in flight, counted from 0 for the one that was posted
+    /// first, and answers its label. Its bytes are stored in the peer's memory, or its scratchpad or doorbell bit is
+    /// set there.
     ///
     /// [`LandAnswer::Blocked`] comes where the write may not pass one before it, by kind and traffic class (PCI Express
-    /// Base 4.0, section 2.4), and [`LandAnswer::Nothing`] where no more than `place` writes are in flight. Both change
-    /// nothing. It takes no memory.
+    /// Base 4.0, section 2.4). [`LandAnswer::Nothing`] comes where no more than `place` writes are in flight. Both
+    /// change nothing. It takes no memory.
     #[inline]
     pub fn land(&mut self, side: Side, place: usize) -> LandAnswer<Label>
         ensures answer { result ≡ label_landed (landing self.old side place) }
@@ -379,8 +386,8 @@ impl Pair {
         }
     }
 
-    /// The label of the write at this place of those that a side has in flight, counted from 0 for the one that was posted
-    /// first. `None` exactly where no more than `place` are in flight.
+    /// The label of the write at this place of those that a side has in flight, counted from 0 for the one that was
+    /// posted first. `None` exactly where no more than `place` are in flight.
     pub fn label_at(&self, side: Side, place: usize) -> Option<Label>
         ensures { result ≡ option_map (λ (flying : Flying). flying.label) (slice_get (flight_of self.now side).writes place) }
     {
@@ -390,15 +397,16 @@ impl Pair {
         }
     }
 
-    /// The traffic class, 0 to 7, of a side's write with this label: that of its queue, and 0 of scratchpads and raw bytes.
+    /// The traffic class, 0 to 7, of a side's write with this label: that of its queue. It is 0 of scratchpads and raw
+    /// bytes, and of a queue from 16 on.
     pub fn class_of(&self, side: Side, label: Label) -> u32
         ensures { result ≡ order_class (plan_classes self.now.plan side) label }
     {
         class_among(classes_of(self.plan.as_ref(), side), label)
     }
 
-    /// Whether no page is there of those that the `len` bytes from the address `at` of a side's memory on touch, which then
-    /// are all 0. They have to lie in the memory; no bytes touch no page.
+    /// Whether no page is there of those that the `len` bytes from the address `at` of a side's memory on touch, which
+    /// then are all 0. They have to lie in the memory; no bytes touch no page.
     pub fn is_blank(&self, side: Side, at: u64, len: u64) -> bool
         requires { at + len ≤ length (bytes_of self.now side) }
         ensures absent { IsTrue result ↔ AreAbsent at len (pages_of self.now side) }
@@ -410,7 +418,8 @@ impl Pair {
         }
     }
 
-    /// Reads the bytes of a side's memory from the address `at` on into the whole of `out`. They have to lie in the memory.
+    /// Reads the bytes of a side's memory from the address `at` on into the whole of `out`. They have to lie in the
+    /// memory.
     pub fn local_read(&self, side: Side, at: u64, out: &mut [u8])
         requires { at + length out.old ≤ length (bytes_of self.now side) }
         ensures { out.new ≡ bytes_at at (length out.old) (bytes_of self.now side) }
@@ -432,8 +441,8 @@ impl Pair {
         }
     }
 
-    /// A side writes `bytes` into its own memory, from the address `at` on. They have to lie in the memory, and each page
-    /// that they touch has to be promised. It takes no memory.
+    /// A side writes `bytes` into its own memory, from the address `at` on. They have to lie in the memory, and each
+    /// page that they touch has to be promised. It takes no memory.
     pub fn local_write(&mut self, side: Side, at: u64, bytes: &[u8])
         requires within { at + length bytes.now ≤ length (bytes_of self.old side) }
         requires promised { ArePromised at (length bytes.now) (pages_of self.old side) }
@@ -445,8 +454,8 @@ impl Pair {
         }
     }
 
-    /// A side writes `value` into its own memory, as a little-endian word of four bytes at the address `at`. All four have to
-    /// lie in the memory, on promised pages. It takes no memory.
+    /// A side writes `value` into its own memory, as a little-endian word of four bytes at the address `at`. All four
+    /// have to lie in the memory, on promised pages. It takes no memory.
     pub fn set_local_word(&mut self, side: Side, at: u64, value: u32)
         requires within { at + 4 ≤ length (bytes_of self.old side) }
         requires promised { ArePromised at 4 (pages_of self.old side) }
@@ -458,7 +467,8 @@ impl Pair {
         }
     }
 
-    /// Promises the pages of a side's index words, which [`Pair::set_index_words`] writes.
+    /// Promises the pages of a side's index words, which [`Pair::set_index_words`] writes. The peer's `size` has to be
+    /// at most the side's `cap`.
     ///
     /// # Errors
     ///
@@ -477,8 +487,9 @@ impl Pair {
         Ok(())
     }
 
-    /// Sets a side's index words, one for each queue: each says that the peer has taken no entry of the ring that the side
-    /// sends to, and is the number of the ring's last entry. Their pages have to be promised.
+    /// Sets a side's index words, one for each queue. Each says that the peer has taken no entry of the ring that the
+    /// side sends to, and is the number of the ring's last slot. Their pages have to be promised, and the peer's `size`
+    /// has to be at most the side's `cap`.
     pub fn set_index_words(&mut self, side: Side)
         requires fit { WindowsFit self.old.plan side }
         requires promised { AreIndexWordsPromised self.old.plan side (pages_of self.old side) }
@@ -573,8 +584,8 @@ impl Pair {
         Ok(())
     }
 
-    /// A side forgets the session that was lost: its scratchpads and pending doorbell bits are 0, and it has reached nothing
-    /// in the handshake. Its mask stays, and so does each byte of its memory.
+    /// A side forgets the session that was lost: its scratchpads and pending doorbell bits are 0, and it has reached
+    /// nothing in the handshake. Its mask stays, and so does each byte of its memory.
     ///
     /// # Errors
     ///

@@ -1,4 +1,5 @@
-//! Whether memories have the same bytes, and queues the same writes in flight: as they are, or once one write has landed.
+//! Whether memories have the same bytes, and queues the same writes in flight: as they are, or once one write has
+//! landed.
 
 ghost use Rattle.std.specs.Prelude.{◌≡◌, ◌↔◌, ℕ, ◌+◌, ◌<◌, ◌≤◌, ◌^◌, IsTrue, length, map, remove, slice_get};
 ghost use Rattle.step_kinds.specs.Limits.{most_write_bytes};
@@ -65,8 +66,8 @@ fn is_same_at(one: &Queue<FlyingWrite>, from: usize, other: &Queue<FlyingWrite>,
     }
 }
 
-/// Whether this write, which is the one at a place in flight, may land: it passes each write before it (PCI Express Base
-/// 4.0, section 2.4).
+/// Whether this write, which is the one at a place in flight, may land: it passes each write before it (PCI Express
+/// Base 4.0, section 2.4).
 pub fn may_land(queue: &Queue<FlyingWrite>, place: usize, write: &FlyingWrite) -> bool
     requires { slice_get queue.now.writes place ≡ Some write.now }
     ensures { result ≡ may_land_at (map flying_order queue.now.writes) place }
@@ -95,8 +96,8 @@ pub fn have_same_bytes(one: &Memory, other: &Memory) -> bool
     one.len() == other.len() && one.has_same_between(other, 0, one.len())
 }
 
-/// Whether one memory has the bytes of another once these few are written to it from an address on. They have to lie in
-/// it.
+/// Whether one memory has the bytes of another once these, at most 128, are written to it from an address on. They have
+/// to lie in it.
 pub fn have_same_bytes_after(one: &Memory, at: u64, bytes: &[u8], other: &Memory) -> bool
     requires within { at + length bytes.now ≤ length one.now.bytes }
     requires few { length bytes.now ≤ most_write_bytes }
@@ -110,7 +111,7 @@ pub fn have_same_bytes_after(one: &Memory, at: u64, bytes: &[u8], other: &Memory
         && one.has_same_between(other, at + bytes.len() as u64, one.len())
 }
 
-// Whether a memory has these few bytes from an address on.
+// Whether a memory has these bytes, at most 128, from an address on.
 fn has_bytes(memory: &Memory, at: u64, bytes: &[u8]) -> bool
     requires within { at + length bytes.now ≤ length memory.now.bytes }
     requires few { length bytes.now ≤ most_write_bytes }

@@ -2,12 +2,13 @@
 
 ghost use Rattle.bridge_regs.specs.Laws.{KeepsMasked, TakesUnmasked};
 
-/// A bit is taken exactly where it is pending and not masked.
+/// A bit is taken exactly where it is pending and not masked. Premise: both sets are numbers of 32 bits.
 pub fn take_is_bit_by_bit()
     ensures { TakesUnmasked }
 {}
 
-/// A bit stays pending over a take exactly where it was pending and is masked.
+/// A bit stays pending over a take exactly where it was pending and is masked. Premise: both sets are numbers of 32
+/// bits.
 pub fn masked_bits_stay()
     ensures { KeepsMasked }
 {}

@@ -1,5 +1,6 @@
-//! The registers of a bridge that both hosts of a pair reach: scratchpads, which hold one word each, and doorbells,
-//! whose bits one side rings and the other takes (Linux `Documentation/driver-api/ntb.rst`).
+//! The registers of a bridge that both hosts of a pair reach: scratchpads and doorbells (Linux
+//! `Documentation/driver-api/ntb.rst`). A scratchpad holds one word. The bits of a doorbell are rung by one side and
+//! taken by the other.
 //!
 //! Sets of bits are numbers of 32 bits. No call takes memory.
 #![tactic(auto)]
@@ -77,7 +78,7 @@ impl Bells {
         }
     }
 
-    /// Rings a bit, which has to be below 32: it is pending from now on, masked or not, and stays so until it is taken.
+    /// Rings a bit, which has to be below 32: it is pending from now on, masked or not, until it is taken or zeroed.
     pub fn ring(&mut self, bit: u32)
         requires { bit < 32 }
         ensures { self.new ≡ with_pending self.old (with_bit self.old.pending bit) }

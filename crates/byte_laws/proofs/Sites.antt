@@ -1,5 +1,5 @@
--- The fold over a pair's steps that keeps what was stored shows the ledger's pair; how it, and the ring of a lane, grow by
--- a step.
+-- The fold over a pair's steps that keeps what was stored shows the ledger's pair; how it, and the ring of a lane, grow
+-- by a step.
 use Rattle.std.proofs.Common.{◌≡◌, ℕ, ◌==◌, List, [], ◌∷◌, ◌++◌, map, refl, sym, ap, ◌∙◌, subst, inl, inr, append_assoc}
 use Rattle.std.specs.Prelude.{◌≢◌, if◌then◌else◌}
 use Rattle.std.specs.List.{AllByRecursion}

@@ -1,4 +1,4 @@
--- On an ordinary pair the bytes say what the ledger says: both readings decide every step alike.
+-- On an ordinary pair the bytes say what the ledger says: both readings decide every permitted step alike.
 use Rattle.std.specs.Prelude.{◌≡◌, ℕ, false, List}
 use Rattle.std.specs.List.{AllByRecursion}
 use Rattle.step_kinds.specs.Subject.{subject_of}
@@ -11,8 +11,8 @@ use Rattle.ledger_model.specs.Log.{ledger_of}
 use Rattle.ledger_model.specs.Reading.{by_ledger, by_bytes}
 use Rattle.memory_model.specs.Memory.{bytes_of_site, memory_of, site_of}
 
--- After any steps that a declared plan permits, the next one has the same outcome by the bytes as by the ledger, on each ordinary
--- pair.
+-- After any steps that a declared plan permits, the next one that it permits has the same outcome by the bytes as by
+-- the ledger, on each ordinary pair.
 abbrev pub BytesSayTheLedger : Type 0
 BytesSayTheLedger = (plan : Plan) (steps : List Step) (step : Step) → IsDeclared plan → AllByRecursion (IsPermitted plan) steps → IsPermitted plan step →
     let k = subject_of step in

@@ -10,7 +10,8 @@ use Rattle.memory_model.specs.Memory.{memory_of}
 abbrev pub MemoriesKeepPairsApart : Type 0
 MemoriesKeepPairsApart = (plan : Plan) → KeepsPairsApart (memory_of plan)
 
--- so, where memories show what was stored, the answers to the steps on a pair are those of the list without the other pairs' steps
+-- so, where memories show what was stored, the answers to the steps on a pair are those of the list without the other
+-- pairs' steps
 abbrev pub StoredPairsAreSeparate : Type 0
 StoredPairsAreSeparate = (plan : Plan) (steps : List Step) (pair : ℕ) →
     made_on pair (log_of plan (memory_of plan) steps) ≡ log_of plan (memory_of plan) (steps_on pair steps)

@@ -10,16 +10,22 @@ pub fn sites_are_the_ledger()
     ensures { SitesAreTheLedger }
 {}
 
-/// After any steps, the ring that the log leaves of a lane stands in memory: in the receiver's memory each slot's payload
-/// and the fields of its header are read at their addresses, and in the sender's memory the index word at its. Premises:
-/// the plan is one that a script can declare, and permits the steps; the lane's pair is ordinary, that is, not declared
-/// `raw`, the numbers of its two sides agree, and the queue is one of theirs.
+/// After any steps, the ring that the log leaves of a lane stands in memory. In the receiver's memory each slot's
+/// payload and the fields of its header are read at their addresses, and in the sender's memory the index word at its.
+///
+/// Premises:
+///
+/// - The plan is one that a script can declare, and permits the steps.
+/// - The lane's pair is one of the plan's. It is ordinary, that is, not declared `raw`, and the numbers of its two
+///   sides agree.
+/// - The queue is one of the two sides'.
 pub fn rings_stand_in_memory()
     ensures { RingsStandInMemory }
 {}
 
-/// On an ordinary pair of a declared plan, after any steps that the plan permits, the next permitted step has the same
-/// outcome where it reads the bytes in memory as where it reads the ledger.
+/// After any steps, the next one on an ordinary pair has the same outcome where it reads the bytes in memory as where
+/// it reads the ledger. Premises: the plan is one that a script can declare, has the pair, and permits the next step
+/// and those before it.
 pub fn bytes_say_the_ledger()
     ensures { BytesSayTheLedger }
 {}

@@ -67,8 +67,8 @@ LastStored =
     (byte_in (store_at 2 (7 ∷ 8 ∷ []) ∷ store_at 3 (9 ∷ 9 ∷ []) ∷ []) 3 ≡ 8)
     × (bytes_in (store_at 2 (7 ∷ 8 ∷ []) ∷ store_at 3 (9 ∷ 9 ∷ []) ∷ []) 1 5 ≡ 0 ∷ 7 ∷ 8 ∷ 9 ∷ 0 ∷ [])
 
--- what the writes of an entry store at the peer: the second chunk 128 bytes after the first, flags of a frame and of a
--- link-down entry; and an index write, which names the slot of entry 5
+-- What the writes of an entry store at the peer: a chunk, the length, the version, and the flags of a frame and of a
+-- link-down entry. The second chunk stands 128 bytes after the first. The index write of entry 5 names its slot.
 abbrev pub WritesOfAnEntry : Type 0
 WritesOfAnEntry =
     (option_map (store_of_write small_pair A) (entry_write small_pair A (Carries (replicate 130 7) 0) (Chunk 0 1 1)) ≡ Some (store_at 1151 (7 ∷ 7 ∷ [])))

@@ -1,5 +1,5 @@
--- What a side stores in its own memory by itself: index words and headers of a ring in which nothing stands, and flags that are
--- cleared.
+-- What a side stores in its own memory by itself: index words and headers of a ring in which nothing stands, and flags
+-- that are cleared.
 use Rattle.std.specs.Prelude.{ℕ, ◌+◌, ◌-◌, List, map, replicate}
 use Rattle.std.specs.List.{flat_map}
 use Rattle.step_kinds.specs.declared.names.Side.{Side}

@@ -1,5 +1,5 @@
--- Headers and index words as bytes, and what a receiver and a sender make of them, whoever wrote them. All fields are words of
--- four bytes, the lowest byte first.
+-- Headers and index words as bytes, and what a receiver and a sender make of them, whoever wrote them. All fields are
+-- words of four bytes, the lowest byte first.
 use Rattle.std.specs.Prelude.{ℕ, ◌+◌, ◌-◌, ◌*◌, ◌==◌, not, min, nat_lt, List, ◌++◌, if◌then◌else◌}
 use Rattle.byteorder.specs.Endian.{little_bytes, little_number}
 use Rattle.step_kinds.specs.Bits.{has_bit}
@@ -55,7 +55,7 @@ header_in plan bytes side queue n = header_with plan (λ offset. word_at bytes s
 
 -- What a receiver finds at the next entry.
 pub data Found : Type 0 where
-  -- no flags
+  -- the flags lack DONE
   NoEntry : Found
   ALinkDownEntry : Found
   -- a version that isn't the next entry's

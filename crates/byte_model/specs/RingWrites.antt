@@ -1,4 +1,5 @@
--- Which bytes the writes of a ring bring, and through which window: a label's target, by the numbers of the side that posts it.
+-- Which bytes the writes of a ring bring, and through which window: a label's target, by the numbers of the side that
+-- posts it.
 use Rattle.std.specs.Prelude.{ℕ, ◌+◌, ◌*◌, ◌%◌, Option, Some, None, List, length}
 use Rattle.step_kinds.specs.declared.names.Side.{Side}
 use Rattle.step_kinds.specs.declared.plan.PairPlan.{PairPlan}

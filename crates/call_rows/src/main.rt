@@ -1,5 +1,5 @@
-//! Makes public calls that take memory and that no other program makes, and says of each answer whether it is the one that
-//! was worked out by hand from the definitions.
+//! Makes public calls that take memory and that no other program makes. Of each answer it says whether it is the one
+//! that was worked out by hand from the definitions.
 #![tactic(auto)]
 
 mod in_one_ring;

@@ -57,8 +57,8 @@ const WRITES: [Label; 5] = [
     Label::Bell { queue: 0 },
 ];
 
-/// Whether a frame of one byte is begun on a pair that starts up, another is refused while its writes are left to post,
-/// and its five writes are posted in order.
+/// Whether a frame of one byte is begun on a pair that starts up, and its five writes are posted in order. Before that
+/// another begin has to be refused, and after it nothing may be left to post. The only error is running out of memory.
 pub fn begun_frame_is_posted(alloc: Global) -> Result<bool, AllocError> {
     let mut pair = new_pair(alloc)?;
     is_posted_on(alloc, &mut pair)

@@ -11,8 +11,9 @@ use traffic_plan::load_without_steps;
 // The report of one answer, and of one frame that was accepted and not delivered.
 const REPORT: &[u8] = b"6 ok\nlane p A 0 1 accepted 1 delivered 0\nend\n";
 
-/// Whether the report of one answer, of one lane and of no device has three lines: the answer with the number of its
-/// script line, the lane in session 1 with what it accepted and delivered, and `end`.
+/// Whether the report of one answer, of one lane and of no device has its three lines. They are the answer with the
+/// number of its script line, the lane in session 1 with what it accepted and delivered, and `end`. The only error is
+/// running out of memory.
 pub fn report_has_its_lines(alloc: Global) -> Result<bool, AllocError> {
     let plan = load_without_steps(alloc)?;
     has_its_lines(alloc, &plan)

@@ -35,7 +35,7 @@ const LOST: [StreamEvent; 12] = [
     StreamEvent::Carry,
 ];
 
-/// Whether both items come once, in order, although a session is lost.
+/// Whether both items come once, in order, although a session is lost. The only error is running out of memory.
 pub fn all_items_come(alloc: Global) -> Result<bool, AllocError> {
     let (_sender, receiver) = run_world(alloc, both(alloc)?, &LOST)?;
     let items = receiver.into_items();

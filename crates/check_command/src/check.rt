@@ -22,7 +22,8 @@ const MOST_PLACE_BYTES: usize = 64;
 
 /// The reply of `check` to a script of at most 16,777,216 bytes. Where the script has no fault, the status is 0, and
 /// the text is `ok` and how much it declares. Otherwise the status is 3, and the text has its first line with a fault,
-/// the word, the cause, and the range of a number that should stand there. The only error is out of memory.
+/// the word and the cause. The range of the number that should stand there follows, if it has one. The only error is
+/// out of memory.
 pub fn check_reply(alloc: Global, bytes: &[u8]) -> Result<Reply, AllocError>
     requires { length bytes.now ≤ most_script_bytes }
     ensures { IfOk result (λ reply. IsCheckOf bytes.now reply) }

@@ -1,4 +1,5 @@
--- What a plan declares is declared by each plan with the same pairs, devices and switches; and a cluster that has made nothing.
+-- What a plan declares is declared by each plan with the same pairs, devices and switches; and a cluster that has made
+-- nothing.
 use Rattle.std.proofs.Common.{◌≡◌, ◌∙◌, ℕ, List, [], length, map, sym, ap, subst}
 use Rattle.plan_model.specs.PlanParts.{declared_part}
 use Rattle.step_kinds.specs.declared.names.LaneName.{LaneName}

@@ -17,9 +17,9 @@ pub record HasStepped {E : Type 0} (old new : ClusterState) (step : Step) (resul
   pub answered : (plan : Plan) (steps : List Step) → HasMade plan steps old → IfOk result (λ answer. IsAnswered plan steps step answer)
   -- then it has made them and this one
   pub made : (plan : Plan) (steps : List Step) → HasMade plan steps old → OnOk result (HasMade plan (steps ++ step ∷ []) new)
-  -- where it is out of memory it has made the same steps, unless a delivered frame was to arrive at a port
+  -- where it is out of memory it has made the same steps, unless the step is one by which a frame may arrive at a port
   pub still_made : (plan : Plan) (steps : List Step) → HasMade plan steps old → may_arrive step ≡ false → OnErr result (HasMade plan steps new)
-  -- a landing that lands nothing leaves it as it was, so that it has made the same steps
+  -- after a landing that lands nothing it has made the same steps too
   pub rests : (plan : Plan) (steps : List Step) → HasMade plan steps old → (pair : ℕ) (side : Side) (place : ℕ) → step ≡ Land pair side place →
       IfOk result (λ answer. ((label : Label) → answer ≢ Landed label) → HasMade plan steps new)
   -- its pairs, devices and switches stay

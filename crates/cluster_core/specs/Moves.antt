@@ -42,7 +42,7 @@ sends_next own (Some next) = Sends (port_seen next.place) own next.frame
 abbrev pub HasWaiting : ClusterState → PortPlace → Type 0
 HasWaiting cluster place = 0 < length (list_of (switch_of cluster.switches (port_seen place)).waiting place.port)
 
--- a frame may be begun, and it waits at a port of the cluster
+-- a frame may be begun, and at its port, which is one of the cluster's, a frame waits
 pub record CanBeSent (cluster : ClusterState) (next : NextFrame) : Type 0 where
   pub frame : IsFrame next.frame
   pub place : IsPortAmong cluster.plans next.place.switch next.place.port

@@ -15,8 +15,8 @@ is_plain (Relay pair side queue switch port) = false
 is_plain (Xnext pair side queue dev) = false
 is_plain step = true
 
--- Any other step that was refused is answered the same where it is made again at once, and a cluster that has made the steps, it
--- the last of them, has made it once more as it is.
+-- Any other step that was refused is answered the same where it is made again at once. A cluster that has made the
+-- steps, it the last of them, has made it once more as it is.
 abbrev pub RefusedAgain : Type 0
 RefusedAgain = (plan : Plan) (steps : List Step) (step : Step) (answer : Answer) (cluster : ClusterState) →
     IsAnswered plan steps step answer → is_made answer ≡ false → is_plain step ≡ true → HasMade plan (steps ++ step ∷ []) cluster →

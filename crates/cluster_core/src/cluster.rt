@@ -29,8 +29,8 @@ use std::alloc::{AllocError, Global};
 use std::marker::Model;
 use step_kinds::{Answer, Counters, Frame, LaneName, Plan, Side, Step, SwitchPlan};
 
-/// A cluster in bytes: its bridges, and the switches that its plan declares. Contracts see the fabric of the bridges, the
-/// declarations of the switches, and the switches.
+/// A cluster in bytes: its bridges, and the switches that its plan declares. Contracts see the fabric of the bridges,
+/// the declarations of the switches, and the switches.
 #[derive(Drop)]
 pub struct Cluster {
     alloc: Global,
@@ -40,8 +40,8 @@ pub struct Cluster {
 }
 
 impl Cluster {
-    /// The cluster of a plan before any step. The plan is one that a script can declare. The cluster has made no step of
-    /// any plan that declares the same pairs, devices and switches.
+    /// The cluster of a plan before any step. The plan is one that a script can declare. The cluster has made no step
+    /// of any plan that declares the same pairs, devices and switches.
     ///
     /// # Errors
     ///
@@ -60,20 +60,22 @@ impl Cluster {
         })
     }
 
-    /// Makes a step, which has to be one that a script of the cluster's plan may make, and answers it. Whatever steps the
-    /// cluster has made, the answer is that of the log of those steps and this one, and then it has made them and this
-    /// one. After a landing that lands nothing it has made also the steps without it.
+    /// Makes a step, which has to be one that a script of the cluster's plan may make, and answers it. Whatever steps
+    /// the cluster has made, the answer is that of the log of those steps and this one, and then it has made them and
+    /// this one. After a landing that lands nothing it has made also the steps without it. The cluster's plan stays,
+    /// whatever comes of the step.
     ///
     /// - A `relay` is answered by the switch: `nothing`, `short`, `filtered`, `to` or `flood`.
-    /// - An `xnext` is answered `nothing` where no frame waits at the device's port. Else it is a `begin` with the first
-    ///   waiting frame, which is taken out where that is answered `ok`.
-    /// - Each other step is made on the bridges alone. A frame that a copy delivers on a port's queue arrives at the port.
+    /// - An `xnext` is answered `nothing` where no frame waits at the device's port. Else it is a `begin` with the
+    ///   first waiting frame, which is taken out where that is answered `ok`.
+    /// - Each other step is made on the bridges alone. A frame that a copy delivers on a port's queue arrives at the
+    ///   port.
     ///
     /// # Errors
     ///
-    /// [`AllocError`] from out of memory alone. The cluster has made the same steps as before then, and the step can be
-    /// made again; but where a copy delivered a frame to a port, the frame may be lost, and of the cluster's steps nothing
-    /// more is promised.
+    /// [`AllocError`] from out of memory, or where a count would pass 2^62, as from [`Fabric::step`]. The cluster has
+    /// made the same steps as before then, and the step can be made again. A copy is another matter: a frame that it
+    /// delivered to a port may be lost, and of the cluster's steps nothing more is promised.
     #[inline(always)]
     pub fn step(&mut self, step: &Step) -> Result<Answer, AllocError>
         requires { IsMakeable (plan_held self.old) step.now }
@@ -158,8 +160,8 @@ impl Cluster {
         }))
     }
 
-    // The next part of a frame is copied on a side and a queue, and a frame that is delivered with it arrives at the port
-    // there.
+    // The next part of a frame is copied on a side and a queue, and a frame that is delivered with it arrives at the
+    // port there.
     fn copy(&mut self, own: LaneName) -> Result<Answer, AllocError>
         requires { IsQueueOf (plan_held self.old) own.pair own.from own.queue }
         ensures { HasStepped self.old self.new (Copy own.pair own.from own.queue) result }
@@ -197,8 +199,8 @@ impl Cluster {
         self.switches[place.switch as usize].arrive(place.port, frame)
     }
 
-    /// How many frames of a lane were accepted and how many delivered in a session, both 0 in a session that wasn't. The
-    /// lane's pair has to be one of the cluster's, and its queue one of both sides.
+    /// How many frames of a lane were accepted and how many delivered in a session, both 0 in a session that wasn't.
+    /// The lane's pair has to be one of the cluster's, and its queue one of both sides.
     pub fn ledger(&self, lane: LaneName, session: u32) -> (u64, u64)
         requires sent { IsQueueOf (plan_held self.now) lane.pair lane.from lane.queue }
         requires received { IsQueueOf (plan_held self.now) lane.pair (other_side lane.from) lane.queue }
@@ -240,13 +242,13 @@ impl Cluster {
         self.fabric.is_same(&other.fabric) && are_same_switches(&self.switches, &other.switches)
     }
 
-    /// Whether the write at this place of those that a side of a pair has in flight may land, and no step can then tell
-    /// the cluster apart from another, as [`Cluster::is_same`] has it. The pair has to be one of the cluster's, and both
-    /// have to be of the same pairs, devices and switches.
+    /// Whether the write that a side of a pair has in flight at this place may land, and no step can then tell the
+    /// cluster apart from another. [`Cluster::is_same`] says what no step can tell apart. The pair has to be one of the
+    /// cluster's, and both clusters have to be of the same pairs, devices and switches.
     ///
-    /// Where the answer is `true`, the other has made whatever steps this one has made and the landing after them. Where
-    /// it has made such a list, and the landing is answered `landed`, the answer is `true`. It is found out without
-    /// landing the write, and takes no memory.
+    /// Where the answer is `true`, the other has made whatever steps this one has made and the landing after them.
+    /// Where it has made such a list, and the landing is answered `landed`, the answer is `true`. It is found out
+    /// without landing the write, and takes no memory.
     pub fn lands_as(&self, pair: u32, side: Side, place: usize, other: &Cluster) -> bool
         requires plans { plan_held self.now ≡ plan_held other.now }
         requires pair { IsPairOf (plan_held self.now) pair }
@@ -282,7 +284,7 @@ impl Cluster {
         self.fabric.in_flight(pair, side)
     }
 
-    /// Adds the key of all that is in flight, by which clusters that may be the same are found among others: those that
+    /// Adds the key of all that is in flight, by which clusters that may be the same are found among others. Those that
     /// have made one list of steps have the same key.
     ///
     /// # Errors
@@ -294,8 +296,8 @@ impl Cluster {
         self.fabric.push_key(key)
     }
 
-    /// Adds the key without the write at a place of those that a side of a pair has in flight, if there is one: once it
-    /// has landed, this is the key. The pair has to be one of the cluster's.
+    /// Adds the key without the write at a place of those that a side of a pair has in flight, if there is one. Once
+    /// that write has landed, this is the key. The pair has to be one of the cluster's.
     ///
     /// # Errors
     ///

@@ -6,7 +6,7 @@ ghost use Rattle.switch_log.specs.Network.{answer_of};
 use learn_switch::RelayAnswer;
 use step_kinds::Answer;
 
-/// A relay.
+/// The answer of a switch to a relay, in the words of a script.
 pub fn relay_answer(relayed: RelayAnswer) -> Answer
     ensures { result ≡ answer_of relayed }
 {

@@ -25,8 +25,8 @@ pub record IsTask (t : task.Inside) : Type 0 where
 abbrev pub ended_of : work.Inside → List SessionShown
 ended_of w = map session_shown w.runs.items
 
--- the losses are those of the sessions that ended and those ahead; the traffic is what was accepted and what the session
--- has to send
+-- the losses are those of the sessions that ended and those ahead; the traffic is what was accepted and what the
+-- session has to send
 abbrev pub state_of : work.Inside → LaneState
 state_of w = record {
   key = record { name = w.name; entries = w.entries; losses = length w.runs.items + w.ahead; traffic = accepted_over (ended_of w) ++ w.session.frames };

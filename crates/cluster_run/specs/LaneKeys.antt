@@ -48,8 +48,8 @@ pub record ComesTo (key : LaneKey) (lane : LaneShown) (proofs : List Shown) : Ty
   pub nothing_left : left_at_last lane.sessions ≡ []
   pub shown : proofs ≡ lane_proofs key.entries lane.sessions
 
--- Records of lanes, or of their streams, come to their keys, one by one, and these are the proofs of their sessions, lane
--- by lane. When one does, a relation says of its key, its record and its proofs.
+-- Records of lanes, or of their streams, come to their keys, one by one, and these are the proofs of their sessions,
+-- lane by lane. When one does, a relation says of its key, its record and its proofs.
 abbrev pub ComeTo : {L : Type 0} → (LaneKey → L → List Shown → Type 0) → List LaneKey → List L → List Shown → Type 0
 ComeTo Comes [] [] proofs = proofs ≡ []
 ComeTo Comes (key ∷ keys) (lane ∷ lanes) proofs =

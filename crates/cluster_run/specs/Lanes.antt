@@ -46,7 +46,7 @@ has_traffic traffic lane = nat_lt 0 (length (frames_on lane traffic))
 abbrev pub traffic_lanes : Plan → List LaneName
 traffic_lanes plan = filter (has_traffic plan.traffic) (lanes_in (length plan.pairs))
 
--- how many entries the ring of a lane has, by the size of the windows that its sender sends through
+-- how many entries the ring of a lane has, which lies in a window that its sender sends through
 abbrev pub entries_on : Plan → LaneName → ℕ
 entries_on plan lane = (sizes_of (pair_plan plan lane.pair) lane.from lane.queue).entries
 

@@ -43,8 +43,8 @@ pub record CuttingShown : Type 0 where
   pub key : WorkerKey
   pub cut : Bool
 
--- a session of a lane: the number of its first worker, the entries of its ring, the frames that it may accept, those
--- that were received, and whether its link was cut
+-- a session of a lane: its first worker's number, its ring's entries, the frames that it may accept, those that were
+-- received, and whether its link was cut
 pub record SessionState : Type 0 where
   pub worker : ℕ
   pub entries : ℕ

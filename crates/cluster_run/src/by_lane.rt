@@ -88,8 +88,8 @@ fn put(alloc: Global, lanes: &mut [LaneTraffic], item: &Traffic) -> Result<(), A
     }
 }
 
-/// All lanes that the plan's pairs may have, each with copies of its frames, in order. The traffic is gone through once.
-/// The only error is running out of memory.
+/// All lanes that the plan's pairs may have, each with copies of its frames, in order. The traffic is gone through
+/// once. The only error is running out of memory.
 pub(crate) fn traffic_by_lane(alloc: Global, plan: &Plan) -> Result<Vec<LaneTraffic>, AllocError>
     requires { CanRun plan.now }
     ensures { IfOk result (λ lanes. map lane_frames lanes.items ≡ by_lane plan.now.traffic (length plan.now.pairs)) }

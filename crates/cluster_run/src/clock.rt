@@ -24,7 +24,8 @@ impl Clock {
         self.worker
     }
 
-    /// The number of the next turn. It stands still where so many turns would pass the last number.
+    /// The number of the next turn. Where so many turns from it on would pass the number 2^64 - 2, it is the largest
+    /// number from which they don't.
     pub fn first(&self, turns: u32) -> u64
         ensures value { result ≡ min self.now.turn (2 ^ 64 - 1 - turns) }
         ensures fits { result + turns < 2 ^ 64 }
@@ -32,7 +33,7 @@ impl Clock {
         self.turn.min(u64::MAX - u64::from(turns))
     }
 
-    /// The clock after so many turns from turn `first` on.
+    /// The clock after so many turns from turn `first` on. The number of its next turn is at most 2^64 - 1.
     pub fn after(&self, first: u64, turns: u32) -> Clock
         ensures { result ≡ record { worker = self.now.worker; turn = min (first + turns) (2 ^ 64 - 1) } }
     {

@@ -20,8 +20,8 @@ const MOST_OPEN: u32 = 1_000_000;
 /// A ring has at most so many.
 const MOST_ENTRIES: u32 = 65_535;
 
-/// Opens the lane `first` and those of the lanes that wait which may be open together with it, in order. The only error is
-/// running out of memory.
+/// Opens the lane `first` and those of the lanes that wait which may be open together with it, in order. The only error
+/// is running out of memory.
 pub(crate) fn next_group(
     alloc: Global,
     first: LaneTask,

@@ -73,8 +73,8 @@ fn move_in_thread<G: Gate>(moving: &mut Moving, gate: &G, progress: &Progress)
     progress.mover_leaves();
 }
 
-// The receiver's part of a round. It is over once all frames of the aim were received; else, once the mover has left, the
-// receiver makes passes until one ends with idle turns, and leaves too.
+// The receiver's part of a round. It is over once all frames of the aim were received; else, once the mover has left,
+// the receiver makes passes until one ends with idle turns, and leaves too.
 fn receive_in_thread<G: Gate>(
     receiving: &mut Receiving,
     gate: &G,
@@ -162,8 +162,8 @@ fn carry_in_threads<R: Threads + Sync, G: Gate>(
 }
 
 /// A round in which each worker has a thread of its own. It is over once all frames were received, where no worker gets
-/// on for a while, or after the cut: where the aim has one, the link is cut once so many frames were received, or after
-/// a while.
+/// on for a while, or after the cut. Where the aim has a cut, the link is cut once so many frames were received, or
+/// after a while.
 pub(crate) fn pass_in_threads<R: Threads + Sync, G: Gate>(
     rt: &R,
     gate: &G,

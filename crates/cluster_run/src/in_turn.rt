@@ -11,8 +11,8 @@ use io_edges::Gate;
 /// At most so often the workers make their passes in a round.
 const TIMES: u32 = 1_024;
 
-// One pass of each worker that carries frames. The mover has three moves for each frame, and after the receiver one turn
-// more, in which the way back brings the sender its entries.
+// One pass of each worker that carries frames. The mover has three moves for each frame, and after the receiver one
+// turn more, in which the way back brings the sender its entries.
 fn carry_in_turn<G: Gate>(
     gate: &G,
     sending: &mut Sending,
@@ -59,9 +59,10 @@ fn cut_in_turn<G: Gate>(
     receiving.pass(gate, turns);
 }
 
-/// A round in which one thread makes the passes of all workers in turn, each of at most so many turns, and three times as
-/// many of the mover. It is over once all frames were received, after so many passes, or after the cut: where the aim has
-/// one, the link is cut once so many frames were received.
+/// A round in which one thread makes the passes of all workers in turn, each of at most so many turns, and three times
+/// as many of the mover. Where the aim has a cut, the link is cut once so many frames were received, and then the round
+/// is over. Where it has none, the round is over once all frames were received. In any case it is over once the workers
+/// made their passes `TIMES` times.
 pub(crate) fn pass_in_turn<G: Gate>(
     gate: &G,
     sending: &mut Sending,

@@ -13,8 +13,8 @@ pub(crate) enum Role {
     Receiver,
 }
 
-/// How often a worker told that a pass of it came to something. The words beside the count are read by nobody: they keep
-/// it on cache lines of its own.
+/// How often a worker told that a pass of it came to something. The words beside the count are read by nobody: they
+/// keep it on cache lines of its own.
 #[derive(Drop)]
 struct News {
     count: AtomicU64,
@@ -132,8 +132,8 @@ impl Progress {
         }
     }
 
-    // Looks until this worker was told more, the round is over, or it has looked often. So it leaves the words of the ring
-    // to the others until many frames may have come.
+    // Looks until this worker was told more, the round is over, or it has looked often. So it leaves the words of the
+    // ring to the others until many frames may have come.
     fn await_news(&self, role: Role, told: u64) {
         for look in 0..LOOKS {
             if self.told(role) != told || self.is_over() {

@@ -51,7 +51,8 @@ fn thread_count<R: Threads>(rt: &R) -> usize
     }
 }
 
-// A round of works. The workers of few have threads; of more each of so many threads makes the passes of several in turn.
+// A round of works. The workers of few have threads; of more each of so many threads makes the passes of several in
+// turn.
 fn round<W, R, F, I>(rt: &R, threads: usize, works: &mut [W], in_threads: &F, in_turn: &I)
 where
     W: RoundWork,
@@ -77,7 +78,8 @@ fn are_over<W: RoundWork>(works: &[W]) -> bool
     works.iter().all(|work| work.is_over())
 }
 
-// Begins the next session of each work whose session was cut. The only error is running out of memory, also in a session.
+// Begins the next session of each work whose session was cut. The only error is running out of memory, also in a
+// session.
 fn renewed<W: RoundWork>(alloc: Global, works: Vec<W>) -> Result<Vec<W>, AllocError>
     ensures { IfOk result (λ next. map W.key next.items ≡ map W.key works.items) }
 {
@@ -97,9 +99,9 @@ fn renewed<W: RoundWork>(alloc: Global, works: Vec<W>) -> Result<Vec<W>, AllocEr
 /// Rounds of these works, until all are over. What each comes to stays. It may wait without end, since rounds have no
 /// bound.
 ///
-/// A round makes the passes of each work: of up to four works by `in_threads`, beside one another; of more by `in_turn`,
-/// and a thread for each processor takes several. Both are given the work's place and the work, and have to keep its key.
-/// Where no thread can be made the caller makes all passes.
+/// A round makes the passes of each work: of up to four works by `in_threads`, beside one another; of more by
+/// `in_turn`, and a thread for each processor takes several. Both are given the work's place and the work, and have to
+/// keep its key. Where no thread can be made the caller makes all passes.
 ///
 /// # Errors
 ///

@@ -16,20 +16,21 @@ use std::thread::Threads;
 use step_kinds::{Items, Plan, RunRecord};
 use table_lane::LaneProof;
 
-/// Sends the traffic of a plan by threads, and answers the record of the run with a proof of each session, in the order
-/// of the lanes and then of the sessions.
+/// Sends the traffic of a plan by threads, and answers the record of the run with a proof of each session. The proofs
+/// stand in the order of the lanes, and then of the sessions.
 ///
 /// The plan's pairs and traffic have to be as a script can declare them, within the limits of traffic. Each lane with
-/// traffic has one link session more than its pair has breaks, and a session is the life of one table lane with as many
-/// entries as the lane's ring. Each session but the last is cut beside its traffic. A frame that a cut refused is sent in
-/// the next session; a frame that was accepted before a cut and not delivered stays lost.
+/// traffic has one link session more than its pair has breaks. A session is the life of one table lane with as many
+/// entries as the lane's ring. Each session but the last is cut beside its traffic. A frame that a cut refused is sent
+/// in the next session; a frame that was accepted before a cut and not delivered stays lost.
 ///
-/// Before each turn a worker passes the gate with its number: 4n where lane n sends, 4n + 1 where it moves frames, 4n + 2
-/// where it receives and 4n + 3 where it is cut. Turns count from 0 in each session. The gate has to let all workers with
-/// numbers below 262,140 pass, before each turn with a number below 2^64.
+/// Lanes are numbered from 0 in the record's order. Before each turn a worker passes the gate with its number. Of lane
+/// n that is 4n where it sends, 4n + 1 where it moves frames, 4n + 2 where it receives and 4n + 3 where it is cut.
+/// Turns count from 0 in each session. The gate has to let all workers with numbers below 262,140 pass, before each
+/// turn with a number below 2^64.
 ///
-/// Up to four lanes have a thread for each worker; of more lanes a thread makes the turns of several, those of one lane
-/// in turn. Where no thread can be made the caller makes them.
+/// Up to four lanes whose rings are open together have a thread for each worker; of more a thread makes the turns of
+/// several, those of one lane in turn. Where no thread can be made the caller makes them.
 ///
 /// # Errors
 ///

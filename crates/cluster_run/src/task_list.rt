@@ -110,8 +110,8 @@ fn waiting_lanes(
     Ok(tasks)
 }
 
-/// The lanes of a plan that have traffic, each with its frames: by the number of the pair, then those from side A before
-/// those from side B, then by the queue. The only error is running out of memory.
+/// The lanes of a plan that have traffic, each with its frames. They stand by the number of the pair, then those from
+/// side A before those from side B, then by the queue. The only error is running out of memory.
 ///
 /// The plan's pairs and traffic have to be as a script can declare them, within the limits of traffic.
 pub fn lanes_to_run(alloc: Global, plan: &Plan) -> Result<VecDeque<LaneTask>, AllocError>

@@ -10,8 +10,8 @@ use std::alloc::{AllocError, Global};
 use std::marker::Model;
 use step_kinds::{FrameList, LaneName};
 
-/// A lane with traffic whose ring isn't open yet. Contracts see its key: the lane, the entries of its ring, the losses of
-/// its pair's link, and its traffic.
+/// A lane with traffic whose ring isn't open yet. Contracts see its key: the lane, the entries of its ring, the losses
+/// of its pair's link, and its traffic.
 #[derive(Drop)]
 pub struct LaneTask {
     /// The lane.
@@ -42,7 +42,7 @@ pub struct TaskParts {
 }
 
 impl LaneTask {
-    /// The entries of its ring.
+    /// How many entries the ring of the lane has, at most 65,535.
     pub fn entries(&self) -> u32
         ensures value { result ≡ self.now.entries }
         ensures fits { result ≤ most_traffic_entries }
@@ -50,7 +50,7 @@ impl LaneTask {
         self.entries
     }
 
-    /// Its parts.
+    /// The parts of a lane that waits.
     pub fn into_parts(self) -> TaskParts
         ensures { AreParts self result }
     {

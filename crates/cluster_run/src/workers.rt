@@ -12,8 +12,8 @@ use std::marker::Model;
 use step_kinds::FrameList;
 use table_lane::{BackEnd, CutEnd, MoveEnd, RecvEnd, SendEnd};
 
-/// Numbers that nobody reads, between what one worker changes and what the next one does: so each has cache lines of its
-/// own.
+/// Numbers that nobody reads, between what one worker changes and what the next one does: so each has cache lines of
+/// its own.
 pub(crate) type Apart = [u64; 16];
 
 /// The worker that sends the frames of a session.
@@ -26,8 +26,8 @@ pub(crate) struct Sending {
 }
 
 impl Sending {
-    /// Makes at least 1 and at most so many turns, and answers how many. What it was given to send stays, sent or not. A
-    /// turn with a frame left loads the link word once.
+    /// Makes at least 1 and at most so many turns, and answers how many. What it was given to send stays, sent or not.
+    /// A turn with a frame left loads the link word once.
     pub(crate) fn pass<G: Gate>(&mut self, gate: &G, turns: u32) -> u32
         requires some { 1 ≤ turns }
         requires gate { LetsWorker (G.lets gate.now) self.old.key.worker }
@@ -88,8 +88,9 @@ impl Moving {
         }
     }
 
-    /// Makes at least 1 and at most so many turns, and answers how many. In each it tries to move, and loads once on the
-    /// way back. The worker's number is the seed of its choices. The gate has to let it pass before each turn.
+    /// Makes at least 1 and at most so many turns, and answers how many; `turns` is at least 1. In each it tries to
+    /// move, and loads once on the way back. The worker's number is the seed of its choices. The gate has to let it
+    /// pass before each turn.
     pub fn pass<G: Gate>(&mut self, gate: &G, turns: u32) -> u32
         requires some { 1 ≤ turns }
         requires gate { LetsWorker (G.lets gate.now) self.old.key.worker }
@@ -114,7 +115,7 @@ impl Moving {
         made
     }
 
-    /// Its two ends, at the end of a session.
+    /// The two ends of the moving worker, at the end of a session.
     pub fn into_ends(self) -> (MoveEnd, BackEnd)
         ensures mover { result.0.lane ≡ self.key.lane }
         ensures back { result.1.lane ≡ self.key.lane }
@@ -144,8 +145,8 @@ pub fn room_for(alloc: Global, frames: usize) -> Result<FrameList, AllocError>
     Ok(list)
 }
 
-/// The worker that receives frames into a list with room for `room` of them. Contracts see its number, the lane that its
-/// end stands at, the frames that were received, for how many more there is room, and its loads of flags.
+/// The worker that receives frames into a list with room for `room` of them. Contracts see its number, the lane that
+/// its end stands at, the frames that were received, for how many more there is room, and its loads of flags.
 #[derive(Drop)]
 pub struct Receiving {
     end: RecvEnd,
@@ -156,8 +157,8 @@ pub struct Receiving {
 }
 
 impl Receiving {
-    /// The worker with this number, before its first turn in a session, with a list that has room for so many frames. Its
-    /// end has received nothing.
+    /// The worker with this number, before its first turn in a session, with an empty list that has room for just so
+    /// many frames. Its end has received nothing.
     pub fn new(end: RecvEnd, got: FrameList, room: usize, worker: u32) -> Receiving
         requires received { end.part.got ≡ [] }
         requires none { got.frames ≡ [] }
@@ -174,7 +175,8 @@ impl Receiving {
     }
 
     /// Makes at most so many turns, and no more than the list has room for. It answers how many: at least one, where
-    /// there is room. Each turn loads a flag once. The gate has to let the worker pass before each turn.
+    /// there is room and `turns` isn't 0. Each turn loads a flag once, and what was received before stays in front. The
+    /// gate has to let the worker pass before each turn.
     pub fn pass<G: Gate>(&mut self, gate: &G, turns: u32) -> u32
         requires gate { LetsWorker (G.lets gate.now) self.old.key.worker }
         ensures key { self.new.key ≡ self.old.key }
@@ -203,7 +205,7 @@ impl Receiving {
         self.got.len()
     }
 
-    /// Its end, and the frames that were received, in order.
+    /// The end of the receiving worker, and the frames that were received, in order.
     pub fn into_parts(self) -> (RecvEnd, FrameList)
         ensures lane { result.0.lane ≡ self.key.lane }
         ensures received { result.0.part.got ≡ self.got }
@@ -225,7 +227,8 @@ impl Model for Receiving {
     ghost invariant = { IsReceiving };
 }
 
-/// The worker that cuts the link. Contracts see its number, the lane that its end stands at, and whether the link was cut.
+/// The worker that cuts the link. Contracts see its number, the lane that its end stands at, and whether the link was
+/// cut.
 #[derive(Drop)]
 pub struct Cutting {
     end: CutEnd,
@@ -265,7 +268,7 @@ impl Cutting {
         self.is_cut
     }
 
-    /// Its end, at the end of a session.
+    /// The end of the cutting worker, at the end of a session.
     pub fn into_end(self) -> CutEnd
         ensures lane { result.lane ≡ self.key.lane }
         ensures cut { result.part.cut ≡ self.cut }

@@ -5,8 +5,8 @@ use Rattle.step_kinds.specs.Limits.{most_traffic_frames}
 use Rattle.stream_laws.specs.Laws.{given_by}
 use Rattle.stream_model.specs.Sender.{Sender, frames_of}
 
--- What was sent in a session is what the sender gave in it. Each frame of the session has a byte, the sender counts how many
--- items it ever gave, and there are as few items as a traffic has.
+-- What was sent in a session is what the sender gave in it. Each frame of the session has a byte, the sender counts how
+-- many items it ever gave, and there are as few items as a traffic has.
 pub record HasOffered (sender : Sender) (sent : List (List ℕ)) : Type 0 where
   pub given : sent ≡ given_by sender
   pub bytes : HaveBytes (frames_of sender)

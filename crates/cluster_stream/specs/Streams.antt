@@ -24,8 +24,8 @@ stream_shown lane = record { name = lane.name; items = lane.items.frames; sessio
 abbrev pub streams_shown : StreamRecord → List StreamShown
 streams_shown streams = map stream_shown streams.lanes
 
--- what the two proofs of a session show, of the lane of items and of the lane of acknowledgements: the frames that were
--- sent and received, the entries of the ring, and whether the link was cut
+-- What the two proofs of a session show, of the lane of items and of the lane of acknowledgements. Each shows the
+-- frames that were sent and received, the entries of the ring, and whether the link was cut.
 abbrev pub exchange_proofs : ℕ → Bool → Exchange → List Shown
 exchange_proofs entries cut session =
     record { sent = session.sent; got = session.got; entries = entries; cut = cut }
@@ -37,8 +37,9 @@ stream_proofs entries [] = []
 stream_proofs entries (session ∷ []) = exchange_proofs entries false session
 stream_proofs entries (session ∷ sessions) = exchange_proofs entries true session ++ stream_proofs entries sessions
 
--- A lane's stream took one session more than its pair's link has losses. Its proofs show these sessions, two for each. The
--- sessions are those of a stream of the lane's traffic, which brought all of it.
+-- A lane's stream took one session more than its pair's link has losses. Its proofs show these sessions, two for each.
+-- The sessions are those of a stream of the lane's traffic, which brought all of it. What came out of each of a
+-- session's two lanes is a front of what that lane was given.
 pub record IsStream (plan : Plan) (lane : StreamShown) (proofs : List Shown) : Type 0 where
   pub sessions : List Exchange
   pub counted : length sessions ≡ lane.sessions
@@ -53,7 +54,8 @@ AreStreams plan [] proofs = proofs ≡ []
 AreStreams plan (lane ∷ lanes) proofs =
     (first : List Shown) × (rest : List Shown) × (proofs ≡ first ++ rest) × IsStream plan lane first × AreStreams plan lanes rest
 
--- These proofs make the record resumed: its lanes are those with traffic, in order, and each lane's stream brought its traffic.
+-- These proofs make the record resumed: its lanes are those with traffic, in order, and each lane's stream brought its
+-- traffic.
 pub record AreResumed (plan : Plan) (streams : List StreamShown) (proofs : List Shown) : Type 0 where
   pub lanes : map (λ (lane : StreamShown). lane.name) streams ≡ traffic_lanes plan
   pub each : AreStreams plan streams proofs

@@ -42,8 +42,8 @@ sink_of w = record {
   kept = length w.receiver.items;
 }
 
--- The stream took what was received, unless there was no memory for a frame. Each acknowledgement says at most how many items
--- are kept, and there are no more acknowledgements than that.
+-- The stream took what was received, unless there was no memory for a frame. Each acknowledgement says at most how many
+-- items are kept, and there are no more acknowledgements than that.
 pub record IsSink (w : sink.Inside) : Type 0 where
   pub begun : w.begun ≤ length w.receiver.items
   pub few : length w.receiver.items < 2 ^ 32

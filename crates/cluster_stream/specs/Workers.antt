@@ -30,8 +30,8 @@ LetsBoth lets workers = LetsWorker lets workers.items × LetsWorker lets workers
 abbrev pub LetsSession : (ℕ → ℕ → Type 0) → PairWorkers → Type 0
 LetsSession lets first = LetsWorkers lets (first.items + 4) × LetsWorkers lets (first.acks + 4)
 
--- what no pass of the giving worker changes: its numbers, the tables of both lanes, the entries of the ring, all items, and
--- the number at which the session starts
+-- what no pass of the giving worker changes: its numbers, the tables of both lanes, the entries of the ring, all items,
+-- and the number at which the session starts
 pub record SourceKey : Type 0 where
   pub workers : PairWorkers
   pub lane : TableId
@@ -45,8 +45,8 @@ pub record SourceShown : Type 0 where
   pub key : SourceKey
   pub ever : ℕ
 
--- what no pass of the keeping worker changes: its numbers, the tables of both lanes, the entries of the ring, and the items
--- that were kept as the session began
+-- what no pass of the keeping worker changes: its numbers, the tables of both lanes, the entries of the ring, and the
+-- items that were kept as the session began
 pub record SinkKey : Type 0 where
   pub workers : PairWorkers
   pub lane : TableId
@@ -65,7 +65,8 @@ pub record PairKey : Type 0 where
   pub lane : TableId
   pub ack_lane : TableId
 
--- the moving workers of both lanes, and on the lane of items the tries to move and the loads of index out on the way back
+-- the moving workers of both lanes, and on the lane of items the tries to move and the loads of index out on the way
+-- back
 pub record MovingShown : Type 0 where
   pub key : PairKey
   pub tries : ℕ
@@ -76,16 +77,16 @@ pub record CuttingShown : Type 0 where
   pub key : PairKey
   pub cut : Bool
 
--- what no pass of a session changes: the entries of its rings, all items, the number at which it starts, and the items that
--- were kept as it began
+-- what no pass of a session changes: the entries of its rings, all items, the number at which it starts, and the items
+-- that were kept as it began
 pub record SessionKey : Type 0 where
   pub entries : ℕ
   pub items : List (List ℕ)
   pub start : ℕ
   pub before : List (List ℕ)
 
--- a session of a stream, the first workers of its lanes, how many items were ever given, how many are kept, and whether its
--- link was cut
+-- a session of a stream, the first workers of its lanes, how many items were ever given, how many are kept, and whether
+-- its link was cut
 pub record SessionState : Type 0 where
   pub first : PairWorkers
   pub key : SessionKey

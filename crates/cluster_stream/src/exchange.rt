@@ -42,8 +42,12 @@ pub(crate) fn next_ends(
     StreamEnds { sender, receiver }
 }
 
-/// What holds of a stream's sessions: with one more they are sessions of the stream, and a front of its items is kept
-/// by their end; and of its ends: what a receiver keeps of one session, and that the largest acknowledgement counts.
+/// What holds of a stream's sessions and of its ends.
+///
+/// - With one more the sessions are sessions of the stream (`grow`).
+/// - By their end a front of the stream's items is kept (`keep`).
+/// - A receiver keeps a front of the items by the end of one session (`front`).
+/// - The largest acknowledgement counts for a sender (`largest`).
 pub(crate) fn laws_of_sessions()
     ensures grow { SessionsGrow }
     ensures keep { SessionsKeepFront }

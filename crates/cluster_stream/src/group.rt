@@ -44,8 +44,8 @@ pub(crate) fn next_group(
     Ok(works)
 }
 
-/// Rounds of the streams of a group, until all are over. What their work comes to stays. The only error is running out of
-/// memory.
+/// Rounds of the streams of a group, until all are over. What their work comes to stays. The only error is running out
+/// of memory.
 pub(crate) fn finished_group<R: Threads + Wait + Sync, G: Gate>(
     rt: &R,
     alloc: Global,

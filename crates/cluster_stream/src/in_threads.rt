@@ -143,8 +143,8 @@ fn carry_in_threads<R: Threads + Sync, G: Gate>(
 }
 
 /// A round in which the source, the movers, the sink and the cutting workers have a thread each. It is over once all
-/// items are kept, where no worker gets on for a while, or after the cut: where the aim has one, the link is cut once
-/// so many items are kept, or after a while.
+/// items are kept and no cut is ahead, where no worker gets on for a while, or after the cut. Where the aim has a cut,
+/// the link is cut once so many items are kept, or after a while.
 pub(crate) fn pass_in_threads<R: Threads + Sync, G: Gate>(
     rt: &R,
     gate: &G,

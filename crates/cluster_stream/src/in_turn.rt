@@ -76,8 +76,9 @@ fn cut_in_turn<G: Gate>(
 }
 
 /// A round in which one thread makes the passes of all workers in turn, each of at most so many turns, and three times
-/// as many of the movers. It is over once all items are kept, after so many passes, or after the cut: where the aim has
-/// one, the link is cut once so many items are kept, or after the last pass.
+/// as many of the movers. Where the aim has a cut, the link is cut once so many items are kept, and then the round is
+/// over. Where it has none, the round is over once all items are kept. In any case it is over once the workers made
+/// their passes `TIMES` times.
 pub(crate) fn pass_in_turn<G: Gate>(
     gate: &G,
     source: &mut Source,

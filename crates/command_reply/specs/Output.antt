@@ -32,7 +32,7 @@ too_long = one_line TooLong (codes "too long")
 abbrev pub too_many_states : Output
 too_many_states = one_line TooManyStates (codes "too many states")
 
--- an input that is refused at a line, by a cause in one word
+-- an input that is refused at a line, by a cause
 abbrev pub refused_at : ℕ → List ℕ → Output
 refused_at line cause = one_line Refused (codes "refused line " ++ decimal line ++ 32 ∷ cause)
 

@@ -10,7 +10,7 @@ pub enum Status {
     Done,
     /// The words of the command line are no command: 2.
     Usage,
-    /// A line of the script has a fault: 3.
+    /// A line of the input has a fault: 3.
     Refused,
     /// The source failed: 4.
     SourceFailed,

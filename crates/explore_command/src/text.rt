@@ -31,8 +31,8 @@ use report_text::append::{push_numbers, push_word};
 use std::alloc::{AllocError, Global};
 use step_kinds::{Line, Plan, Side};
 
-/// The text of the outcomes of a plan's schedules, and of how many states they reach. Each further landing of an outcome has
-/// to be of a pair of the plan. The only error is out of memory.
+/// The text of the outcomes of a plan's schedules, and of how many states they reach. Each further landing of an
+/// outcome has to be of a pair of the plan. The only error is out of memory.
 pub fn explored_text(
     alloc: Global,
     plan: &Plan,

@@ -1,5 +1,5 @@
--- Worked examples: a script that begins a frame, posts its first write, and shows what is in flight. The write may have landed
--- before it is shown, or not.
+-- Worked examples: a script that begins a frame, posts its first write, and shows what is in flight. The write may have
+-- landed before it is shown, or not.
 use Rattle.std.specs.Prelude.{◌≡◌, false, List, [], ◌∷◌, ◌++◌, codes}
 use Rattle.std.specs.declared.cmp.Ordering.TheVariants.{Less}
 use Rattle.step_kinds.specs.declared.names.Side.TheVariants.{A}
@@ -50,7 +50,7 @@ pub record BothAreOutcomes : Type 0 where
   pub in_flight_then : IsOutcome plan script in_flight
   pub order : answers_cmp landed.answers in_flight.answers ≡ Less
 
--- before the write is posted no landing is answered `landed`, and after it no second one
+-- the landing isn't answered `landed` before the write is posted, nor a second time
 pub record NoOtherLands : Type 0 where
   pub early : is_landed (answer_after plan (memory_of plan) (Begin 0 A 0 letter ∷ []) (landing_step landing)) ≡ false
   pub late : is_landed (answer_after plan (memory_of plan) (Begin 0 A 0 letter ∷ Post 0 A 0 ∷ landing_step landing ∷ []) (landing_step landing)) ≡ false

@@ -15,7 +15,8 @@ use Rattle.explore_model.specs.declared.outcome.Outcome.{Outcome}
 abbrev pub answers_cmp : List (List ℕ) → List (List ℕ) → Ordering
 answers_cmp one other = slice_cmp (slice_cmp nat_cmp) one other
 
--- these are the answers of a schedule of the script with these further landings, the last of which is made before some step
+-- these are the answers of a schedule of the script with these further landings, the last of which is made before some
+-- step
 pub record IsOutcome (plan : Plan) (script : List Step) (outcome : Outcome) : Type 0 where
   pub made : List Step
   pub run : Runs plan script outcome.landings made outcome.answers

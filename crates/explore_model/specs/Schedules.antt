@@ -29,8 +29,8 @@ pub record IsLanding (plan : Plan) (landing : Landing) : Type 0 where
   pub pair : IsPairOf plan landing.pair
   pub place : landing.place < 2 ^ 32
 
--- A run of a script: its steps were made in their order, and before them further landings, each of which was answered `landed`. It has
--- made these steps in all, and the answers to the script's own steps have these texts.
+-- A run of a script: its steps were made in their order, and before them further landings, each of which was answered
+-- `landed`. It has made these steps in all, and the answers to the script's own steps have these texts.
 pub data Runs (plan : Plan) : (script : List Step) (landings : List Landing) (made : List Step) (answers : List (List ℕ)) → Type 0 where
   -- nothing was made
   begun : Runs plan [] [] [] []

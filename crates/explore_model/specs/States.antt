@@ -26,8 +26,8 @@ module _ {Machine : Type 0} (has_made : Machine → Plan → List Step → Type 
   abbrev pub CanHaveMade : Plan → List Step → List Step → Type 0
   CanHaveMade plan one other = (machine : Machine) × has_made machine plan one × has_made machine plan other
 
-  -- Two runs lead to one state: as many steps of the script were made and answered alike, and a machine can have made the steps of
-  -- both.
+  -- Two runs lead to one state: as many steps of the script were made and answered alike, and a machine can have made
+  -- the steps of both.
   pub record LeadToOne (plan : Plan) (script : List Step) (one other : Passing plan script) : Type 0 where
     pub first : one.first ≡ other.first
     pub answers : one.answers ≡ other.answers

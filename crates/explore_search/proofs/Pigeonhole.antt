@@ -1,5 +1,5 @@
--- The pigeonhole principle for lists: a list is no longer than another where some item of the other has each of its items
--- and none has two.
+-- The pigeonhole principle for lists: a list is no longer than another where some item of the other has each of its
+-- items and none has two.
 use Rattle.std.proofs.Common.{◌≡◌, ◌∙◌, ℕ, ◌<◌, ◌≤◌, ◌⊎◌, inl, inr, List, [], ◌∷◌, ap, arith, get_or, length, subst, sym}
 use Rattle.std.specs.List.{All, AllPairs, Any}
 use Rattle.std.proofs.lemmas.Bool.{cases_lt}
@@ -28,8 +28,8 @@ module _ {X Y : Type 0} (R : X → Y → Type 0) (xs : List X) (ys : List Y) (d 
   has_both i j (inr beyond) j_at i_is j_is same = absurd (omega (arith, beyond))
   has_both i j (inl i_below) (inr beyond) i_is j_is same = absurd (omega (arith, beyond))
 
--- A list is no longer than another where each of its items is had by one of the other, two that are had by one are alike,
--- and no two are.
+-- A list is no longer than another where each of its items is had by one of the other, and no two of its items are
+-- alike. Two that are had by one have to be alike.
 pub no_longer : {X Y : Type 0} (R : X → Y → Type 0) (L : Y → Y → Type 0) (xs : List X) (ys : List Y) → All (λ y. Any (λ x. R x y) xs) ys →
     ((x : X) (y z : Y) → R x y → R x z → L y z) → AllPairs (λ y z. L y z → ⊥) ys → length ys ≤ length xs
 no_longer R L xs [] had alike apart = omega arith

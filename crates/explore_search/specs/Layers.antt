@@ -1,5 +1,5 @@
--- The layers of a search: the states after one number of a script's steps, in groups by their answers, and how a step leads from
--- one layer to the next.
+-- The layers of a search: the states after one number of a script's steps, in groups by their answers, and how a step
+-- leads from one layer to the next.
 use Rattle.std.specs.Prelude.{◌≡◌, ℕ, ◌+◌, ◌<◌, ◌≤◌, List, [], ◌∷◌, ◌++◌, MatchResult, Result, length, slice_index_or, take}
 use Rattle.std.specs.Cmp.Lexicographic.{slice_cmp}
 use Rattle.std.specs.List.{All, AllPairs, Any}

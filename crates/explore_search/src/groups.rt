@@ -33,7 +33,7 @@ pub fn close_layer<M: Machine>(
     close_groups(alloc, plan, done, groups, before, limit)
 }
 
-// Closes the states of each group under landings, and answers how many there are then, together with those that were
+// Closes the states of each group under landings. It answers how many there are then, together with those that were
 // counted before, or `None` where there are more than the limit.
 fn close_groups<M: Machine>(
     alloc: Global,

@@ -29,7 +29,7 @@ pub trait Machine: Drop {
     // a few bytes of its state
     ghost key_of: { Self → List ℕ };
 
-    // those bytes once the write of a landing has landed
+    // those bytes without the write of a landing
     ghost key_without: { Self → LandingValue → List ℕ };
 
     /// A machine that has made no step of the plan, which is one that a script can declare. The only error is out of
@@ -71,7 +71,8 @@ pub trait Machine: Drop {
         ensures merges { IsTrue result → (plan : PlanValue) (steps : List StepValue) → has_made self.now plan steps → has_made other.now plan (steps ++ landing_step landing ∷ []) }
         ensures apart { (plan : PlanValue) (steps : List StepValue) → has_made self.now plan steps → is_landed (answer_after plan (memory_of plan) steps (landing_step landing)) ≡ true → has_made other.now plan (steps ++ landing_step landing ∷ []) → IsTrue result };
 
-    /// How many writes a side of a pair has in flight. From this place on no landing finds a write.
+    /// How many writes a side of a pair has in flight. From this place on no landing finds a write. The pair has to be
+    /// one of the plan's.
     fn in_flight(&self, pair: u32, side: Side) -> usize
         requires { IsPairOf (plan_held self.now) pair }
         ensures { (plan : PlanValue) (steps : List StepValue) (place : ℕ) → has_made self.now plan steps → result ≤ place →
@@ -82,8 +83,8 @@ pub trait Machine: Drop {
     fn push_key(&self, key: &mut Vec<u8>) -> Result<(), AllocError>
         ensures { OnOk result (key.new.items ≡ key.old.items ++ key_of self.now) };
 
-    /// Adds the key without the write of a landing, by which a search looks for the state in which the landing leaves the
-    /// machine. The landing's pair has to be one of the plan's. The only error is out of memory.
+    /// Adds the key without the write of a landing, by which a search looks for the state in which the landing leaves
+    /// the machine. The landing's pair has to be one of the plan's. The only error is out of memory.
     fn push_key_without(&self, landing: Landing, key: &mut Vec<u8>) -> Result<(), AllocError>
         requires { IsPairOf (plan_held self.now) landing.pair }
         ensures { OnOk result (key.new.items ≡ key.old.items ++ key_without self.now landing) };

@@ -32,8 +32,8 @@ pub enum Explored {
     TooMany,
 }
 
-/// Every outcome that the schedules of a plan's script have, by machines of the plan. The plan is one that a script can
-/// declare.
+/// Every outcome that the schedules of a plan's script have, by machines of the plan. Where the schedules come to more
+/// than a million states before a step, it is [`Explored::TooMany`] instead. The plan is one that a script can declare.
 ///
 /// # Errors
 ///

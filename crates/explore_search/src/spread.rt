@@ -139,8 +139,8 @@ fn machine_of<M: Machine>(
     }
 }
 
-// The landings of all pairs and sides at places where a machine has writes in flight, the last place first. Each landing
-// that lands takes a machine, and one at the front of a side always lands: so none is left over.
+// The landings of all pairs and sides at places where a machine has writes in flight, the last place first. Each
+// landing that lands takes a machine, and one at the front of a side always lands: so none is left over.
 fn landings_at<M: Machine>(
     alloc: Global,
     plan: &Plan,

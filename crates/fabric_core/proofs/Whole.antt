@@ -1,4 +1,5 @@
--- What is so of every pair stays so: through calls of one of its queues, through steps on its bridge, and where a side forgets its session.
+-- What is so of every pair stays so: through calls of one of its queues, through steps on its bridge, and where a side
+-- forgets its session.
 use Rattle.std.proofs.Common.{◌≡◌, ◌∙◌, ℕ, suc, ◌+◌, ◌<◌, ◌⊎◌, Contains, List, [], ◌∷◌, length, get_or, map, set, rules, inl, inr, refl, sym, ap, subst, arith}
 use Rattle.std.proofs.lemmas.Bool.{cases_eq}
 use Rattle.std.proofs.lemmas.List.{get_or-map, get_or-set_other, get_or-set_same, length-map, length-set}

@@ -1,4 +1,5 @@
--- A fabric as contracts see it: its devices and its pairs; when it stands for the steps that were made; and what a step needs.
+-- A fabric as contracts see it: its devices and its pairs; when it stands for the steps that were made; and what a step
+-- needs.
 use Rattle.std.specs.Prelude.{◌≡◌, ℕ, ◌<◌, Bool, true, false, List, [], length, map, slice_index_or}
 use Rattle.step_kinds.specs.declared.names.LaneName.{LaneName}
 use Rattle.step_kinds.specs.declared.plan.DevPlan.{DevPlan}
@@ -44,7 +45,7 @@ pub record StandsFor (plan : Plan) (steps : List Step) (fabric : FabricState) : 
   pub all_pairs : length fabric.pairs ≡ length plan.pairs
   pub pairs : (k : ℕ) → k < length plan.pairs → PairStands plan.devs (pair_plan plan k) k (site_of plan k steps) (pair_of fabric k)
 
--- the steps that may answer out of memory: they post, promise or hand out bytes
+-- the steps that may answer out of memory: they promise room or pages, or show memory
 abbrev pub queue_wants_memory : QueueStep → Bool
 queue_wants_memory (Begin frame) = true
 queue_wants_memory (Xbegin dev dst kind payload) = true

@@ -21,7 +21,7 @@ abbrev pub LandsNoneFrom : FabricState → ℕ → Side → ℕ → Type 0
 LandsNoneFrom fabric pair side count =
     (plan : Plan) (steps : List Step) → HasMade plan steps fabric → (place : ℕ) → count ≤ place → IsAnswered plan steps (Land pair side place) Nothing
 
--- The key: of each write in flight what its label is, and three of its numbers, each modulo 256
+-- The key: of each write in flight what its label is, and up to three of its numbers, each modulo 256
 
 abbrev pub low_byte : ℕ → ℕ
 low_byte n = n % 256

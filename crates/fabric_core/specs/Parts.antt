@@ -44,8 +44,9 @@ CanTurnQueue devs (Begin frame) = 0 < length frame.now
 CanTurnQueue devs (Xbegin dev dst kind payload) = (dev < length devs) × (length (dev_plan devs dev).address ≡ 6) × IsPayload dst.now kind payload.now
 CanTurnQueue devs step = Unit {0}
 
--- What a call of a port keeps: its own promises are there still, the room grows and shrinks with what it hasn't used, no page that
--- was promised is lost, and the peer's room stays.
+-- What a call of a port keeps: its plan, side and queue, the pair's plan, each page that was promised, and the peer's
+-- room. The side's room grows and shrinks with what the port hasn't used, and the pages that the port was promised are
+-- there.
 pub record KeepsPort (old new : PortState) (before after : Bridge) : Type 0 where
   pub same_plan : new.plan ≡ old.plan
   pub same_side : new.side ≡ old.side
@@ -67,7 +68,8 @@ pub record IsInPlace (bridge : Bridge) (side : Side) (queue : ℕ) (part : Queue
   pub its_queue : part.queue.port.queue ≡ queue
   pub ready : HasPagesIn part.queue.port bridge
 
--- What is so of every pair: each side has all its queues, and room for just what their ports were promised and haven't used.
+-- What is so of every pair: each side has all its queues, and room for just what their ports were promised and haven't
+-- used.
 pub record IsWhole (state : PairState) : Type 0 where
   pub all_queues : (side : Side) → length (queues_of state side) ≡ (side_plan state.bridge.plan side).queues
   pub queues : (side : Side) (queue : ℕ) → queue < (side_plan state.bridge.plan side).queues → IsInPlace state.bridge side queue (queue_of state side queue)

@@ -14,7 +14,7 @@ use Rattle.fabric_core.specs.Numbers.{most_count}
 use Rattle.fabric_core.specs.Parts.{KeepsPort}
 use Rattle.fabric_rule.specs.Turns.{QueueTurn}
 
--- before an entry is begun or looked for: the queue is one of this pair, its rings fit where it is joined, and the pages that its
+-- before a begin or a look: the queue is one of this pair, its rings fit where it is joined, and the pages that its
 -- port was promised are there
 pub record CanBegin (queue : QueueState) (pair : Bridge) : Type 0 where
   pub plan : pair.plan ≡ queue.port.plan
@@ -55,8 +55,8 @@ IsFound answer = is_found answer ≡ true
 abbrev pub IsBegunOrUncounted : Counters → Answer → Type 0
 IsBegunOrUncounted counters answer = IsBegun answer ⊎ (most_count ≤ counters.refused)
 
--- the queue took this turn, or nothing changed of it where it is out of memory, which is at these answers alone; of the bridge only
--- promises changed
+-- the queue took this turn, or nothing changed of it where it is out of memory, which is at these answers alone; of the
+-- bridge only promises changed
 pub record HasTurnedUnlessWanting {E : Type 0} (MayWant : Answer → Type 0) (turn : QueueTurn) (result : Result Answer E) (old new : QueuePart) (old_bridge new_bridge : Bridge) : Type 0 where
   pub answer : IfOk result (λ answer. answer ≡ turn.answer)
   pub after : OnOk result (new ≡ turn.part)

@@ -30,8 +30,8 @@ queue_changed pair side queue change = with_queue pair side queue (change (queue
 abbrev pub pair_changed : FabricState → ℕ → (PairState → PairState) → FabricState
 pair_changed fabric k change = record fabric { pairs = slice_set fabric.pairs k (change (pair_of fabric k)) }
 
--- the fabric after a step that was refused: the same, but that a device counts it, and that a post which finds nothing to post lets
--- the entry go
+-- the fabric after a step that was refused: the same, but that a device counts it, and that a post which finds nothing
+-- to post lets the entry go
 abbrev pub refused_in : FabricState → Step → FabricState
 refused_in fabric (Xbegin k side queue dev dst kind payload) = pair_changed fabric k (λ pair. queue_changed pair side queue refusal_counted)
 refused_in fabric (Post k side queue) = pair_changed fabric k (λ pair. queue_changed pair side queue entry_let_go)
@@ -44,8 +44,8 @@ abbrev pub counts_refusals : Step → Bool
 counts_refusals (Xbegin pair side queue dev dst kind payload) = true
 counts_refusals step = false
 
--- Any other step that was refused is answered the same where it is made again at once, and a fabric that stands for the steps
--- made, it the last of them, stands for it once more as it is.
+-- Any other step that was refused is answered the same where it is made again at once. A fabric that has made the
+-- steps, it the last of them, has made it once more as it is.
 abbrev pub RefusedAgain : Type 0
 RefusedAgain = (plan : Plan) (steps : List Step) (step : Step) (answer : Answer) (fabric : FabricState) →
     IsAnswered plan steps step answer → is_made answer ≡ false → counts_refusals step ≡ false → HasMade plan (steps ++ step ∷ []) fabric →

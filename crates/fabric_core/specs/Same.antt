@@ -1,5 +1,5 @@
--- Fabrics that no step can tell apart. Left out is what is promised, what a port keeps of an entry that it has posted
--- whole, the limits of a device, which are the plan's, and the order in which sessions are counted.
+-- Fabrics that no step can tell apart. Left out is what is promised, and what a port keeps of a frame that it has
+-- posted whole. So are the limits of a device, which are the plan's, and the order in which sessions are counted.
 use Rattle.std.specs.Prelude.{◌≡◌, ◌≢◌, ℕ, ◌<◌, List, length, slice_index_or}
 use Rattle.step_kinds.specs.declared.names.Side.{Side}
 use Rattle.step_kinds.specs.declared.plan.PairPlan.{PairPlan}

@@ -18,8 +18,8 @@ pub struct OfSession {
     pub count: u64,
 }
 
-/// How many frames there were in each session, a session without frames left out. Room for one more is taken before it is
-/// counted.
+/// How many frames there were in each session, a session without frames left out. Room for one more is taken before it
+/// is counted.
 #[derive(Drop)]
 pub struct SessionCounts {
     counts: Vec<OfSession>,
@@ -45,7 +45,7 @@ impl SessionCounts {
     ///
     /// # Errors
     ///
-    /// [`AllocError`] from out of memory alone, and then nothing changes.
+    /// [`AllocError`] from out of memory, or where 2^62 frames were counted, and then nothing changes.
     pub fn make_room(&mut self) -> Result<(), AllocError>
         ensures ok { OnOk result (self.new ≡ record self.old { has_room = true }) }
         ensures err { OnErr result (self.new ≡ self.old) }
@@ -142,8 +142,9 @@ impl Model for SessionCounts {
     ghost invariant = { IsTally };
 }
 
-// Where a session is counted: mostly at the end, where it is the last one, or nowhere, where it comes after all, or as
-// many places after the first as it comes after it, where each session between them has frames.
+// Where a session is counted. Mostly that is at the end, where it is the last one, or nowhere, where it comes after
+// all. Or it stands as many places after the first one as it comes after that, where each session between them has
+// frames.
 fn place_of(counts: &[OfSession], most: u32, session: u32) -> Option<usize>
     requires apart { AreApart (map count_seen counts.now) }
     requires most { AreUpTo (map count_seen counts.now) most }

@@ -50,27 +50,31 @@ impl Fabric {
         Ok(Fabric { devs, pairs })
     }
 
-    /// Makes a step, which has to be one that a script of the fabric's plan may make, and answers it. Whatever steps the fabric
-    /// stands for, the answer is the log's of those steps and this one, and then it stands for them and this one.
+    /// Makes a step, which has to be one that a script of the fabric's plan may make, and answers it. Whatever steps
+    /// the fabric stands for, the answer is the log's of those steps and this one, and then it stands for them and this
+    /// one.
     ///
-    /// So the answer says what the log of those steps says. `linkdown`, `notready`, `closed`, `toolong` and `busy` come exactly
-    /// where the log says so. So do `stopped`, `again`, `empty` and `peerdown` on ordinary pairs, that is, on pairs that aren't
-    /// declared `raw`. On these `up` comes only where all of the peer's numbers have landed in the session and agree, and neither
-    /// `verdiffers` nor `long` comes.
+    /// So the answer says what the log of those steps says. `linkdown`, `notready`, `closed`, `toolong` and `busy` come
+    /// exactly where the log says so. So do `stopped`, `again`, `empty` and `peerdown` on ordinary pairs, that is, on
+    /// pairs that aren't declared `raw`. On these `up` comes only where all of the peer's numbers have landed in the
+    /// session and agree, and neither `verdiffers` nor `long` comes.
     ///
-    /// A refusal leaves the fabric as it was, promised room and pages aside. Two things change all the same: a device's refusal is
-    /// counted, and a port that answers `idle` lets go of the entry that it has posted.
+    /// A refusal leaves the fabric as it was, promised room and pages aside. Two things change all the same: a device's
+    /// refusal is counted, and a port that answers `idle` lets go of the entry that it has posted.
     ///
-    /// Of the steps made the laws of every log hold. On ordinary pairs frames come in order and once, and a quiet queue has
-    /// delivered all. What is in flight there is what was posted, rings keep their law, and sides that are up agree. On every pair
-    /// counts are the log's, what was posted are the entries' writes, and nothing is in flight while the link is down. A lane's
-    /// part of what is in flight lands by its own order, and the steps on other pairs change no answer.
+    /// Of the steps made the laws of every log hold. On ordinary pairs frames come in order and once, and a quiet queue
+    /// has delivered all. What is in flight there is what was posted while the link was up and has neither landed nor
+    /// been dropped. There rings keep their law, and sides that are up agree. On every pair counts are the log's, what
+    /// was posted are the entries' writes, and nothing is in flight while the link is down. A lane's part of what is in
+    /// flight lands by its own order, and the steps on other pairs change no answer.
     ///
     /// # Errors
     ///
-    /// [`AllocError`] from out of memory alone: of a step that posts, promises or hands out bytes, and that the log
-    /// doesn't refuse. The fabric stands for the same steps as before then, and nothing but promised room and pages has
-    /// changed. A device's frame gets it too where its refusal would be one more than 2^62.
+    /// [`AllocError`] from out of memory, or where a count would pass 2^62. That is one of a lane's entries in the
+    /// session, of its frames in all sessions, or of what a device's counters count. It comes only of a step that
+    /// promises room or pages or shows memory, and that the log doesn't refuse. The fabric stands for the same steps as
+    /// before then, and nothing but promised room and pages has changed. A device's frame gets it too where its refusal
+    /// would be one more than 2^62.
     #[inline(always)]
     pub fn step(&mut self, step: &Step) -> Result<Answer, AllocError>
         requires { IsPermitted (plan_kept self.old) step.now }
@@ -81,8 +85,8 @@ impl Fabric {
         pair.make(&self.devs, step)
     }
 
-    /// How many frames of a lane were accepted and how many delivered in a session, both 0 in a session that wasn't. The lane's
-    /// pair has to be one of the fabric's, and its queue one of both sides.
+    /// How many frames of a lane were accepted and how many delivered in a session, both 0 in a session that wasn't.
+    /// The lane's pair has to be one of the fabric's, and its queue one of both sides.
     pub fn ledger(&self, lane: LaneName, session: u32) -> (u64, u64)
         requires sent { IsQueueOf (plan_kept self.now) lane.pair lane.from lane.queue }
         requires received { IsQueueOf (plan_kept self.now) lane.pair (other_side lane.from) lane.queue }
@@ -94,7 +98,8 @@ impl Fabric {
         (sent.accepted_in(session), received.delivered_in(session))
     }
 
-    /// The number of the session that a pair is in, or was in last; 0 before the first. The pair has to be one of the fabric's.
+    /// The number of the session that a pair is in, or was in last; 0 before the first. The pair has to be one of the
+    /// fabric's.
     pub fn sessions(&self, pair: u32) -> u32
         requires { IsPairOf (plan_kept self.now) pair }
         ensures { IsSession self.now pair result }
@@ -138,7 +143,7 @@ impl Fabric {
 
 impl Fabric {
     /// Whether no step can tell two fabrics apart, which have to be of the same pairs and devices. Left out are
-    /// promised room and pages, and what a queue keeps of an entry that it has posted whole.
+    /// promised room and pages, and what a queue keeps of a frame that it has posted whole.
     ///
     /// Where the answer is `true`, whatever steps the one stands for, so does the other. Where both stand for one list
     /// of steps, it is `true`. It takes no memory.
@@ -150,9 +155,9 @@ impl Fabric {
         are_same_pairs(&self.pairs, &other.pairs)
     }
 
-    /// Whether the write at this place of those that a side of a pair has in flight may land, and no step can then tell
-    /// the fabric apart from another, as [`Fabric::is_same`] has it. The pair has to be one of the fabric's, and both
-    /// have to be of the same pairs and devices.
+    /// Whether the write that a side of a pair has in flight at this place may land, and no step can then tell the
+    /// fabric apart from another. [`Fabric::is_same`] says what no step can tell apart. The pair has to be one of the
+    /// fabric's, and both fabrics have to be of the same pairs and devices.
     ///
     /// Where the answer is `true`, the other stands for whatever steps this one stands for and the landing after them.
     /// Where it stands for such a list, and the landing is answered `landed`, the answer is `true`. It is found out
@@ -191,7 +196,7 @@ impl Fabric {
         self.pair(pair).in_flight(side)
     }
 
-    /// Adds the key of all that is in flight, by which fabrics that may be the same are found among others: those that
+    /// Adds the key of all that is in flight, by which fabrics that may be the same are found among others. Those that
     /// stand for one list of steps have the same key.
     ///
     /// # Errors
@@ -203,8 +208,8 @@ impl Fabric {
         push_keys(key, &self.pairs)
     }
 
-    /// Adds the key without the write at a place of those that a side of a pair has in flight, if there is one: once it
-    /// has landed, this is the key. The pair has to be one of the fabric's.
+    /// Adds the key without the write at a place of those that a side of a pair has in flight, if there is one. Once
+    /// that write has landed, this is the key. The pair has to be one of the fabric's.
     ///
     /// # Errors
     ///

@@ -68,7 +68,8 @@ impl PairBox {
     ///
     /// # Errors
     ///
-    /// [`AllocError`] from out of memory alone. Further pages may then be promised, and nothing else changes.
+    /// [`AllocError`] from out of memory, or where a count would pass 2^62. Further pages may then be promised, and
+    /// nothing else changes.
     #[inline(always)]
     pub fn make(&mut self, devs: &[DevPlan], step: &Step) -> Result<Answer, AllocError>
         requires agrees { Agrees self.old.bridge }
@@ -174,8 +175,8 @@ impl PairBox {
         self.pair.is_same(&other.pair) && self.has_same_queues(other)
     }
 
-    /// Whether the write at this place of those that a side has in flight may land, and no step can then tell the pair apart
-    /// from another of its plan. It is found out without landing the write, and takes no memory.
+    /// Whether the write at this place of those that a side has in flight may land, and no step can then tell the pair
+    /// apart from another of its plan. It is found out without landing the write, and takes no memory.
     pub fn lands_as(&self, side: Side, place: usize, other: &PairBox) -> bool
         requires { self.now.bridge.plan ≡ other.now.bridge.plan }
         ensures { IsTrue result ↔ LandsAsPair self.now side place other.now }

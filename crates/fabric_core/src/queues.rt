@@ -33,7 +33,8 @@ use std::alloc::{AllocError, Global};
 use std::marker::Model;
 use step_kinds::{Answer, Counters, DevPlan, Frame, LaneCopy, PairPlan, QueueStep, Side};
 
-/// One queue of one side: its queue pair, the flow of the device on it, and what is counted. Contracts see them as a record.
+/// One queue of one side: its queue pair, the flow of the device on it, and what is counted. Contracts see them as a
+/// record.
 #[derive(Drop)]
 pub struct QueueBox {
     queue: QueuePair,
@@ -74,8 +75,8 @@ impl QueueBox {
     ///
     /// # Errors
     ///
-    /// [`AllocError`] from out of memory alone. Further pages of the pair may then be promised, and nothing else
-    /// changes.
+    /// [`AllocError`] from out of memory, or where a count would pass 2^62. Further pages of the pair may then be
+    /// promised, and nothing else changes.
     #[inline(always)]
     pub fn make(
         &mut self,
@@ -328,7 +329,8 @@ impl QueueBox {
         self.counters = accepted(self.counters, len);
     }
 
-    /// Forgets the session, as the queue's side does at a clean: nothing is sent or received, and the device isn't stopped.
+    /// Forgets the session, as the queue's side does at a clean: nothing is sent or received, and the device isn't
+    /// stopped.
     pub fn forget(&mut self, pair: &mut Pair)
         requires plan { pair.old.plan ≡ self.old.queue.port.plan }
         requires room { HasRoomIn self.old.queue.port pair.old }

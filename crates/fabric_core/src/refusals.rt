@@ -65,9 +65,9 @@ pub fn is_made(answer: &Answer) -> bool
     }
 }
 
-/// A step that was refused is refused again in the same way as often as it is made again at once, and the fabric needn't make
-/// it: it stands for these steps too. A device's begin is no such step, since its refusals are counted. It does nothing: its
-/// clause is the law.
+/// A step that was refused is refused again in the same way as often as it is made again at once. The fabric needn't
+/// make it: as it is, it stands for these steps too. A device's begin is no such step, since its refusals are counted.
+/// It does nothing: its clause is the law.
 pub fn refused_again()
     ensures { RefusedAgain }
 {}

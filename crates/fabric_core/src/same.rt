@@ -3,8 +3,8 @@
 ghost use Rattle.fabric_core.specs.InFlight.{SameKeys};
 ghost use Rattle.fabric_core.specs.Same.{OneListMakesSame, SameHasMadeSame};
 
-/// Two fabrics are the same, and the one has made a list of steps of a plan. Where the other has made any list of that
-/// plan, it has made this one too. It does nothing: its clause is the law.
+/// A fabric that is the same as another has made whatever list of a plan's steps the other has made. Premise: it has
+/// made some list of that plan itself. It does nothing: its clause is the law.
 pub fn same_has_made_same()
     ensures { SameHasMadeSame }
 {}

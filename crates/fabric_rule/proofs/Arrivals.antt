@@ -1,5 +1,5 @@
--- What comes to a side of a pair that stands: bytes into its memory, a bit of its doorbell, a value into a scratchpad, and what
--- neither end of a lane sees.
+-- What comes to a side of a pair that stands: bytes into its memory, a bit of its doorbell, a scratchpad's value, and
+-- what neither end of a lane sees.
 use Rattle.std.proofs.Common.{◌≡◌, ℕ, refl, List, [], ◌∷◌, ◌++◌, sym, ap, ◌∙◌}
 use Rattle.std.specs.Prelude.{if◌then◌else◌, slice_set}
 use Rattle.step_kinds.specs.Sides.{same_side}

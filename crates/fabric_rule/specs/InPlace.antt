@@ -1,5 +1,6 @@
--- What holds of the ledger of every pair, raw ones too, so that what a port reads and writes lies in its memories: what a side that
--- has forgotten its session is left with, the labels left to post and in flight, and where their writes go.
+-- What holds of the ledger of every pair, raw ones too, so that what a port reads and writes lies in its memories. That
+-- is what a side that has forgotten its session is left with, and how far a receiver is with the entry at hand. It is
+-- also which labels are left to post and in flight, and where their writes go.
 use Rattle.std.specs.Prelude.{◌≡◌, ℕ, ◌+◌, ◌-◌, ◌<◌, ◌≤◌, ◌⊎◌, Bool, true, false, List, [], ◌∷◌, length, slice_index_or}
 use Rattle.std.specs.List.{AllByRecursion}
 use Rattle.step_kinds.specs.Sides.{other_side}

@@ -1,4 +1,4 @@
--- The laws of what a fabric keeps: it stands for the steps made, whatever they are.
+-- The laws of what a fabric keeps: it stands for the steps made, whichever of those that the plan permits.
 use Rattle.std.specs.Prelude.{◌≡◌, ℕ, false, ◌<◌, ◌∷◌, [], ◌++◌, List, length}
 use Rattle.std.specs.List.{AllByRecursion}
 use Rattle.step_kinds.specs.Subject.{subject_of}
@@ -40,7 +40,8 @@ abbrev pub FreshPairStands : Type 0
 FreshPairStands = (devs : List DevPlan) (plan : PairPlan) (k : ℕ) (pages : Both (List ℕ)) (state : PairState) → IsPair plan →
     IsFreshPair devs plan k pages state → PairStands devs plan k (fresh_site plan) state
 
--- and where it stands for the steps made, a further one is answered as the ledger says, and then it stands for one step more
+-- and where it stands for the steps made, a further one is answered as the ledger says, and then it stands for one step
+-- more
 abbrev pub EachStepStands : Type 0
 EachStepStands = (plan : Plan) (steps : List Step) (step : Step) (state : PairState) → IsDeclared plan → AllByRecursion (IsPermitted plan) steps →
     IsPermitted plan step → IsPairOf plan (subject_of step) →

@@ -1,5 +1,5 @@
--- What each step does to a pair as a fabric keeps it: the turn of the part that it touches, put back in its place. Room and pages
--- that are promised stand aside (`plain_pair`).
+-- What each step does to a pair as a fabric keeps it: the turn of the part that it touches, put back in its place. Room
+-- and pages that are promised stand aside (`plain_pair`).
 use Rattle.std.specs.Prelude.{ℕ, false, Option, Some, None, List, map}
 use Rattle.step_kinds.specs.Places.{step_place}
 use Rattle.step_kinds.specs.declared.names.Side.{Side}

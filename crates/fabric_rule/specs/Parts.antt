@@ -1,5 +1,5 @@
--- What a fabric keeps of a pair: the pair in bytes, and of each queue of each side its queue pair, its device's flow and counts,
--- and the frames of each session.
+-- What a fabric keeps of a pair: the pair in bytes, and of each side's queues the queue pair, the device's flow and
+-- counts, and the frames by session.
 use Rattle.std.specs.Prelude.{ℕ, ◌+◌, ◌==◌, List, [], ◌∷◌, false, if◌then◌else◌, slice_index_or, slice_set}
 use Rattle.step_kinds.specs.declared.names.Side.{Side}
 use Rattle.step_kinds.specs.declared.names.Side.TheVariants.{A}

@@ -1,6 +1,6 @@
--- When what a fabric keeps of a pair stands for the ledger of the steps that were made: link, registers, books, counts and lists
--- in flight are the ledger's, each byte of its memories is the last one that was stored there, and what a port keeps of the entry
--- at hand is that entry.
+-- When what a fabric keeps of a pair stands for the ledger of the steps that were made. Link, registers, books, counts
+-- and lists in flight are the ledger's. Each byte of its memories is the last one that was stored there, and what a
+-- port keeps of the entry at hand is that entry.
 use Rattle.std.specs.Prelude.{◌≡◌, ℕ, ◌<◌, ◌&&◌, ◌⊎◌, Bool, true, false, Option, Some, None, List, [], ◌∷◌, length, slice_index_or, if◌then◌else◌}
 use Rattle.step_kinds.specs.Bits.{has_bit}
 use Rattle.step_kinds.specs.Sides.{other_side}
@@ -88,7 +88,8 @@ memory_for plan side stores = record { bytes = bytes_in stores 0 (memory_size pl
 abbrev pub flight_for : PairPlan → Side → (ℕ → List Entry) → SidePart → Flight Flying
 flight_for plan side sent part = record { writes = writes_labelled plan side sent part.flight part.poked; spare = 0 }
 
--- the bridge of a pair with this link and these sides, whose lanes have these entries, and in whose memories this was stored
+-- the bridge of a pair with this link and these sides, whose lanes have these entries, and in whose memories this was
+-- stored
 abbrev pub bridge_with : PairPlan → Link → Both SidePart → Both (ℕ → List Entry) → Both (List Store) → Bridge
 bridge_with plan link sides sent stores =
     record {
@@ -113,8 +114,8 @@ bridge_for plan site = bridge_with plan site.pair.link site.pair.sides (all_sent
 
 -- A queue of a side
 
--- what a side sees of one of its queues: the two lanes, each from its end, its device, the frames by session of both lanes, and
--- whether the queue is closed
+-- what a side sees of one of its queues: both lanes, each from its end, its device, the frames of both lanes by
+-- session, and whether the queue is closed
 pub record QueueView : Type 0 where
   pub sends : SendingEnd
   pub receives : ReceivingEnd

@@ -1,5 +1,5 @@
--- What a step does to the part of a pair that it touches, by the bytes in the pair's memories and the counts of its ports: to the
--- bridge alone, or to one queue and the bridge. The answer stands beside it.
+-- What a step does to the part of a pair that it touches, by the bytes in the pair's memories and the counts of its
+-- ports. The part is the bridge alone, or one queue and the bridge. The answer stands beside it.
 use Rattle.std.specs.Prelude.{ℕ, ◌+◌, List, length, option_map, slice_get, slice_index, bit_or, if◌then◌else◌}
 use Rattle.step_kinds.specs.Bits.{without_bits}
 use Rattle.step_kinds.specs.declared.names.Side.{Side}
@@ -98,8 +98,8 @@ abbrev pub qpdown_turn : QueuePart → Bridge → QueueTurn
 qpdown_turn part bridge =
     record { answer = of_begin (qpdown_answer part.queue bridge); part = record part { queue = after_qpdown part.queue bridge }; bridge = bridge }
 
--- a device's frame was begun: it is counted, and the device stops where it left too few entries free; or it was refused, which is
--- counted, and nothing else changes
+-- a device's frame was begun: it is counted, and the device stops where it left too few entries free; or it was
+-- refused, which is counted, and nothing else changes
 abbrev pub xbegun : Answer → Bridge → QueuePart → List ℕ → QueuePart
 xbegun (OkNumber number) bridge part frame =
     let begun = after_begin part.queue bridge frame in

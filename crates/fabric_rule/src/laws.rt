@@ -7,9 +7,10 @@ pub fn fresh_pair_stands()
     ensures { FreshPairStands }
 {}
 
-/// Where what is kept of a pair stands for the steps that were made, a further one is answered as the ledger says, by its
-/// entries on an ordinary pair and by the bytes in memory on a raw one, and then it stands for one step more. Premises: the
-/// plan is one that a script can declare, and it permits each of the steps.
+/// Where what is kept of a pair stands for the steps that were made, a further one on it is answered as the ledger
+/// says. The ledger answers by its entries on an ordinary pair, and by the bytes in memory on a raw one. Then what is
+/// kept stands for one step more. Premises: the plan is one that a script can declare, has the pair, and permits each
+/// of the steps.
 pub fn each_step_stands()
     ensures { EachStepStands }
 {}

@@ -1,4 +1,5 @@
--- What is left of the port and of the pair where what an entry needs is promised, and the port then stands at it or memory runs out.
+-- What is left of the port and of the pair where what an entry needs is promised, and the port then stands at it or
+-- memory runs out.
 use Rattle.std.proofs.Common.{◌≡◌, ◌∙◌, ◌+◌, ◌-◌, ◌≤◌, ℕ, true, false, List, Result, Ok, Err, OnErr, OnOk, length, refl, sym, ap, subst, arith}
 use Rattle.step_kinds.specs.Sides.{other_side}
 use Rattle.step_kinds.specs.declared.names.Side.{Side}
@@ -61,7 +62,8 @@ no_more port receiving same =
     let none : 0 ≡ unused_of port - unused_of port = omega arith in
     none ∙ ap (λ (receiving : Receiving). unused_of (with_receiving port receiving) - unused_of port) (sym same)
 
--- Where the port stands at the entry, its unused promises grow by the room for the entry's index write, and else by none.
+-- Where the port stands at the entry, its unused promises grow by the room for the entry's index write, and else by
+-- none.
 pub found_grown : {X E : Type 0} (result : Result X E) (port : PortState) (found receiving : Receiving) (pair mid last new : Bridge) → is_idle port.receiving.phase ≡ true → is_idle found.phase ≡ false
     → mid ≡ with_pages pair (other_side port.side) (pages_of mid (other_side port.side)) → last ≡ with_pages mid port.side (pages_of last port.side)
     → OnOk result (receiving ≡ found) → OnErr result (receiving ≡ port.receiving) → OnOk result (new ≡ with_room last port.side 1) → OnErr result (new ≡ last)

@@ -1,5 +1,5 @@
--- What each call of a port answers, and what it leaves of the port, by the bytes that stand in the side's memory and the port's
--- own counts, whoever wrote those bytes.
+-- What each call of a port answers, and what it leaves of the port. Both go by the bytes that stand in the side's
+-- memory, whoever wrote them, and by the port's own counts.
 use Rattle.std.specs.Prelude.{◌≡◌, ℕ, ◌+◌, ◌-◌, ◌||◌, Bool, Option, Some, None, List, [], ◌∷◌, ◌++◌, length, nat_le, nat_lt, if◌then◌else◌}
 use Rattle.step_kinds.specs.declared.lanes.Begun.{Begun}
 use Rattle.step_kinds.specs.declared.lanes.Begun.TheVariants.{Ok as BegunOk, TooLong, Busy, NoRoom}

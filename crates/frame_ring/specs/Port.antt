@@ -1,5 +1,5 @@
--- One queue of one side: how far it is with what it sends and with what it receives. It knows counts of its own and the entry
--- under way, and no entry that is gone.
+-- One queue of one side: how far it is with what it sends and with what it receives. It knows counts of its own and the
+-- entry under way, and no entry that is gone.
 use Rattle.std.specs.Prelude.{ℕ, suc, ◌+◌, ◌||◌, Bool, not, List, [], ◌∷◌, ◌++◌, length, map, if◌then◌else◌}
 use Rattle.step_kinds.specs.declared.names.Side.{Side}
 use Rattle.step_kinds.specs.declared.plan.PairPlan.{PairPlan}
@@ -14,7 +14,8 @@ pub record Sending : Type 0 where
   -- how many entries and how many frames were begun
   pub begun : ℕ
   pub told : ℕ
-  -- the entry that was begun last, the labels of its writes that are left to post, and the entries of its frame that wait
+  -- the entry that was begun last, until its frame is posted whole; the labels of its writes that are left to post, and
+  -- the entries of its frame that wait
   pub entry : Entry
   pub todo : List Label
   pub waiting : List Entry
@@ -23,8 +24,8 @@ pub record Receiving : Type 0 where
   -- how many entries were taken whole, and how many frames were delivered
   pub got : ℕ
   pub done : ℕ
-  -- where the receiver stands with the entry at hand: how many parts of it were copied, its length, and how many entries of its
-  -- frame follow it
+  -- where the receiver stands with the entry at hand: how many parts of it were copied, its length, and how many
+  -- entries of its frame follow it
   pub phase : Phase
   pub part : ℕ
   pub len : ℕ
@@ -77,7 +78,7 @@ writes_from queue n (entry ∷ entries) = left_of_entry entry (labels_of queue n
 abbrev pub writes_left : PortState → List Left
 writes_left port = left_of_entry port.sending.entry port.sending.todo ++ writes_from port.queue port.sending.begun port.sending.waiting
 
--- How many promises of room for a write the port has that it hasn't used: one for each write left to post, and one for the
--- index write of an entry that was found and not given back.
+-- How many promises of room for a write the port has that it hasn't used. There is one for each write left to post, and
+-- one for the index write of an entry that was found and not given back.
 abbrev pub unused_of : PortState → ℕ
 unused_of port = length (writes_left port) + (if is_idle port.receiving.phase then 0 else 1)

@@ -24,8 +24,8 @@ use Rattle.frame_ring.specs.Port.{PortState, Left, writes_left, unused_of}
 abbrev pub bytes_seen : Bridge → Bytes
 bytes_seen bridge = λ side at len. bytes_at at len (bytes_of bridge side)
 
--- What a pair has to be for its rings: sides that a handshake could bring up, as far as queues, windows and sizes go. A raw
--- pair's sides may differ in queues and windows, and their sizes fit by the pair's plan.
+-- What a pair has to be for its rings: sides that a handshake could bring up, as far as queues, windows and sizes go. A
+-- raw pair's sides may differ in queues and windows, and their sizes fit by the pair's plan.
 pub record FitsRings (plan : PairPlan) : Type 0 where
   pub queues : plan.raw ≡ false → plan.a.queues ≡ plan.b.queues
   pub windows : plan.raw ≡ false → plan.a.windows ≡ plan.b.windows
@@ -81,8 +81,8 @@ IsLeftReady plan side pages left = IsReady plan side pages (entry_write plan sid
 abbrev pub entry_at_hand : PortState → ℕ
 entry_at_hand port = if is_copying port.receiving.phase then port.receiving.got else port.receiving.got - 1
 
--- The pages that a port's calls were promised, in its own memory and in the peer's: those of all writes left to post, and of
--- the flags and the index write of the entry at hand.
+-- The pages that a port's calls were promised are there, in its own memory and in the peer's. They are those of all
+-- writes left to post, and of the flags and the index write of the entry at hand.
 pub record HasPages (port : PortState) (own peer : List ℕ) : Type 0 where
   pub writes : All (IsLeftReady port.plan port.side peer) (writes_left port)
   pub flags : is_idle port.receiving.phase ≡ false → ArePromised (own_header port.plan port.side port.queue (entry_at_hand port) + flags_offset port.plan) 4 own

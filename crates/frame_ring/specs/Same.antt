@@ -2,7 +2,7 @@
 use Rattle.std.specs.Prelude.{◌≡◌, true}
 use Rattle.frame_ring.specs.Port.{PortState, Sending, is_busy}
 
--- the same counts, the same left to post, and the same entry at hand; of an entry that was posted whole nothing is asked
+-- the same counts, the same left to post, and the same entry at hand; of a frame that was posted whole nothing is asked
 pub record IsSameSending (one other : Sending) : Type 0 where
   pub begun : one.begun ≡ other.begun
   pub told : one.told ≡ other.told

@@ -32,12 +32,16 @@ use std::alloc::{AllocError, Global};
 use std::marker::Model;
 use step_kinds::{Begun, Frame, Label, LaneCopy, PairPlan, Side};
 
-/// One queue of one side of a pair: the ring that it sends to in the peer's memory, the ring that it receives in in its own,
-/// and how far it is with both. Contracts see that as a record.
+/// One queue of one side of a pair: the ring that it sends to in the peer's memory, and the ring that it receives in in
+/// its own. It knows how far it is with both, and contracts see that as a record.
 ///
-/// Every call that takes a pair has to be given one of the port's plan. What a begin, a going down or a look promised, and
-/// the port hasn't used yet, has to be there when it is used: room for its writes among those that the side has promised, and
-/// the pages that they write to. Other calls on the pair leave both as they are.
+/// Every call that takes a pair has to be given one of the port's plan. What a begin, a going down or a look promised,
+/// and the port hasn't used yet, has to be there when it is used. That is room for its writes among those that the side
+/// has promised, and the pages that they write to. Other calls on the pair leave both, where they use and give back
+/// only what they promised themselves.
+///
+/// To begin, to look or find, and to ask what these answer, each side's `size` has to be at most the peer's `cap`.
+/// Unless the pair is raw, both sides also need as many queues and as many windows.
 #[derive(Drop)]
 pub struct Port {
     rings: QueueRings,
@@ -51,7 +55,8 @@ impl Port {
     ghost use Rattle.frame_ring.specs.PortView.{FitsRings, HasPagesIn, HasRoomIn, TouchesLeft, TouchesWrite, with_room};
     ghost use Rattle.frame_ring.specs.Same.{IsSamePort};
 
-    /// The port of one of a side's queues, with nothing sent and nothing received.
+    /// The port of one of a side's queues, with nothing sent and nothing received. The plan has to be one that a script
+    /// can declare.
     ///
     /// # Errors
     ///
@@ -70,18 +75,21 @@ impl Port {
         })
     }
 
-    /// Begins a frame, of one byte at least: as one entry, or on version 5 as so many as its bytes fill. Room for all its
-    /// writes is promised, and the pages that they write to.
+    /// Begins a frame, of one byte at least: as one entry, or on version 5 as so many as its bytes fill. Room for all
+    /// its writes is promised, and the pages that they write to.
     ///
-    /// [`Begun::TooLong`] comes where the frame is longer than any may be, then [`Begun::Busy`] where writes of the frame
-    /// before are left to post, then [`Begun::NoRoom`] where the ring has fewer entries free than the frame takes, by the
-    /// index word in the side's memory; one that names no slot of the ring counts as no room. A refusal changes nothing and
-    /// drops the frame.
+    /// It is refused for one of three reasons, tested in this order. A refusal changes nothing and drops the frame.
+    ///
+    /// - [`Begun::TooLong`] comes where the frame is longer than any may be.
+    /// - [`Begun::Busy`] comes where writes of the frame or link-down entry begun before are left to post.
+    /// - [`Begun::NoRoom`] comes where the ring has fewer entries free than the frame takes, by the index word in the
+    ///   side's memory. An index word that names no slot of the ring counts as no room.
     ///
     /// # Errors
     ///
-    /// [`AllocError`] from out of memory alone, where the frame was to be begun and is not refused. The port is as it
-    /// was, and of the pair nothing but pages that this frame needs may have become promised.
+    /// [`AllocError`] from out of memory, or where the session would have more than 2^62 entries. It comes only where
+    /// the frame was to be begun and is not refused. The port is as it was, and of the pair nothing but pages that this
+    /// frame needs may have become promised.
     pub fn begin(&mut self, pair: &mut Pair, frame: Frame) -> Result<Begun, AllocError>
         requires some { 0 < length frame }
         requires plan { pair.old.plan ≡ self.old.plan }
@@ -108,8 +116,8 @@ impl Port {
     ///
     /// # Errors
     ///
-    /// [`AllocError`] from out of memory alone. The port is as it was, and of the pair nothing but pages that this frame
-    /// needs may have become promised.
+    /// [`AllocError`] from out of memory, or where the session would have more than 2^62 entries. The port is as it
+    /// was, and of the pair nothing but pages that this frame needs may have become promised.
     pub fn begin_unrefused(&mut self, pair: &mut Pair, frame: Frame) -> Result<u64, AllocError>
         requires some { 0 < length frame }
         requires plan { pair.old.plan ≡ self.old.plan }
@@ -132,8 +140,9 @@ impl Port {
     ///
     /// # Errors
     ///
-    /// [`AllocError`] from out of memory alone, where the entry was to be begun and is not refused. The port is as it
-    /// was, and of the pair nothing but pages that this entry needs may have become promised.
+    /// [`AllocError`] from out of memory, or where the session would have more than 2^62 entries. It comes only where
+    /// the entry was to be begun and is not refused. The port is as it was, and of the pair nothing but pages that this
+    /// entry needs may have become promised.
     pub fn down(&mut self, pair: &mut Pair) -> Result<Begun, AllocError>
         requires plan { pair.old.plan ≡ self.old.plan }
         requires fits { FitsRings self.old.plan }
@@ -154,8 +163,9 @@ impl Port {
         }
     }
 
-    /// Posts the next write that is left, and answers its label; `None` exactly where none is left. Where the link isn't up the
-    /// write is lost, and so is one through a window that the peer lacks, which only a raw pair can have. It takes no memory.
+    /// Posts the next write that is left, and answers its label; `None` exactly where none is left. Where the link
+    /// isn't up the write is lost, and so is one through a window that the peer lacks, which only a raw pair can have.
+    /// It takes no memory.
     pub fn post(&mut self, pair: &mut Pair) -> Option<Label>
         requires plan { pair.old.plan ≡ self.old.plan }
         requires room { HasRoomIn self.old pair.old }
@@ -176,16 +186,18 @@ impl Port {
         label
     }
 
-    /// Looks for the next entry, by the header of its slot in the side's memory. Where it is [`RingLook::Ready`], room for its
-    /// bytes and for the index write that gives it back is promised, and the pages of both and of its flags.
+    /// Looks for the next entry, by the header of its slot in the side's memory. Where it is [`RingLook::Ready`], room
+    /// for its bytes and for the index write that gives it back is promised, and the pages of that write and of its
+    /// flags.
     ///
     /// [`RingLook::OutOfTurn`] comes where another entry is at hand, then [`RingLook::Empty`], [`RingLook::PeerDown`],
     /// [`RingLook::VerDiffers`] and [`RingLook::Long`] by the header, in this order. All these change nothing.
     ///
     /// # Errors
     ///
-    /// [`AllocError`] from out of memory alone, where an entry was found. The port is as it was, and of the pair
-    /// nothing but pages that this entry needs may have become promised.
+    /// [`AllocError`] from out of memory, or where the session has 2^62 entries before this one. It comes only where an
+    /// entry was found. The port is as it was, and of the pair nothing but pages that this entry needs may have become
+    /// promised.
     pub fn look(&mut self, pair: &mut Pair) -> Result<RingLook, AllocError>
         requires plan { pair.old.plan ≡ self.old.plan }
         requires fits { FitsRings self.old.plan }
@@ -216,8 +228,8 @@ impl Port {
     ///
     /// # Errors
     ///
-    /// [`AllocError`] from out of memory alone. The port is as it was, and of the pair nothing but pages that this entry
-    /// needs may have become promised.
+    /// [`AllocError`] from out of memory, or where the session has 2^62 entries before this one. The port is as it was,
+    /// and of the pair nothing but pages that this entry needs may have become promised.
     pub fn find(&mut self, pair: &mut Pair, len: u32) -> Result<(), AllocError>
         requires plan { pair.old.plan ≡ self.old.plan }
         requires fits { FitsRings self.old.plan }
@@ -235,8 +247,11 @@ impl Port {
         self.stand_at(pair, len, left)
     }
 
-    /// Copies the next part of the entry at hand, as it stands in the side's memory: 128 bytes, or the rest. With the last part
-    /// of a frame's last entry the whole frame is delivered; an entry without bytes takes one copy. It takes no memory.
+    /// Copies the next part of the entry at hand, as it stands in the side's memory: 128 bytes, or the rest. With the
+    /// last part of a frame's last entry the whole frame is delivered; an entry without bytes takes one copy. It takes
+    /// no memory.
+    ///
+    /// [`LaneCopy::OutOfTurn`] comes exactly where no entry is being copied, and changes nothing.
     pub fn copy(&mut self, pair: &Pair) -> LaneCopy
         requires { pair.now.plan ≡ self.old.plan }
         ensures answer { result ≡ copy_answer self.old pair.now }
@@ -252,8 +267,8 @@ impl Port {
         self.receiver.copy(pair, side, at)
     }
 
-    /// Zeroes the flags of the entry that was copied, in the side's own memory, and answers its number; `None` exactly where
-    /// none was. It takes no memory.
+    /// Zeroes the flags of the entry that was copied, in the side's own memory, and answers its number; `None` exactly
+    /// where none was. It takes no memory.
     pub fn clear(&mut self, pair: &mut Pair) -> Option<u64>
         requires plan { pair.old.plan ≡ self.old.plan }
         requires pages { HasPagesIn self.old pair.old }
@@ -271,8 +286,8 @@ impl Port {
         Some(number)
     }
 
-    /// Gives the entry that was cleared back: posts the index write that names its slot, and answers its number; `None` exactly
-    /// where none was cleared. It takes no memory.
+    /// Gives the entry that was cleared back: posts the index write that names its slot, and answers its number; `None`
+    /// exactly where none was cleared. It takes no memory.
     pub fn ack(&mut self, pair: &mut Pair) -> Option<u64>
         requires plan { pair.old.plan ≡ self.old.plan }
         requires room { HasRoomIn self.old pair.old }
@@ -307,9 +322,10 @@ impl Port {
         self.rings.queue()
     }
 
-    /// Whether two ports of one queue are in the same state, so that no later call tells them apart: counts, all that is left
-    /// to post with the entries that it is of, and where the receiver stands with the bytes copied so far. Of what was posted
-    /// whole nothing is compared. Both have to be of one plan, side and queue. It takes no memory.
+    /// Whether two ports of one queue are in the same state, so that no later call tells them apart. Compared are the
+    /// counts, all that is left to post with the entries that it is of, and where the receiver stands with the bytes
+    /// copied so far. Of a frame that was posted whole nothing is compared. Both have to be of one plan, side and
+    /// queue. It takes no memory.
     pub fn is_same(&self, other: &Port) -> bool
         requires plan { self.now.plan ≡ other.now.plan }
         requires side { self.now.side ≡ other.now.side }
@@ -323,7 +339,8 @@ impl Port {
     ///
     /// # Errors
     ///
-    /// [`AllocError`] from out of memory alone.
+    /// [`AllocError`] from out of memory, or where `usize::MAX` copies of the port share its plan already, since its
+    /// `Rc` can't count one more. No memory has room for so many.
     pub fn copy_of(&self, alloc: Global) -> Result<Port, AllocError>
         ensures { IfOk result (λ copy. copy ≡ self.now) }
     {
@@ -366,8 +383,8 @@ impl Port {
         self.receiver.sight(&self.rings, &words)
     }
 
-    /// Whether [`Port::begin`] would answer [`Begun::TooLong`] or [`Begun::Busy`] for a frame of `len` bytes, 1 to 65,536,
-    /// whatever room there is. It takes no memory.
+    /// Whether [`Port::begin`] would answer [`Begun::TooLong`] or [`Begun::Busy`] for a frame of `len` bytes, 1 to
+    /// 65,536, whatever room there is. It takes no memory.
     pub fn refuses(&self, len: u32) -> bool
         requires some { 0 < len }
         requires most { len ≤ most_frame_bytes }
@@ -376,8 +393,8 @@ impl Port {
         self.rings.most_sent() < len || self.sender.is_busy()
     }
 
-    /// The free entries of the ring that the port sends to, by the index word in the side's memory: 0 where that word names no
-    /// slot of the ring, and where it doesn't lie wholly in the memory. It takes no memory.
+    /// The free entries of the ring that the port sends to, by the index word in the side's memory. There are 0 where
+    /// that word names no slot of the ring, and where it doesn't lie wholly in the memory. It takes no memory.
     pub fn free(&self, pair: &Pair) -> u32
         requires { pair.now.plan ≡ self.now.plan }
         ensures { result ≡ free_answer self.now pair.now }
@@ -389,8 +406,8 @@ impl Port {
         free_by(&self.rings, head, index_word(&self.rings, pair))
     }
 
-    /// Forgets all that was sent and received, as a side does between two sessions, and gives back the promises of room that
-    /// weren't used. It takes no memory.
+    /// Forgets all that was sent and received, as a side does between two sessions, and gives back the promises of room
+    /// that weren't used. It takes no memory.
     pub fn reset(&mut self, pair: &mut Pair)
         requires plan { pair.old.plan ≡ self.old.plan }
         requires room { HasRoomIn self.old pair.old }

@@ -79,7 +79,7 @@ pub fn slot_offset_of(rings: &QueueRings, n: u64) -> u64
     out.slot_at(slot_in(out, n))
 }
 
-/// The offset of its header.
+/// The offset of the header of the slot to which the side sends entry `n`.
 pub fn header_offset_of(rings: &QueueRings, n: u64) -> u64
     ensures value { result ≡ header_offset rings.now.plan rings.now.side rings.now.queue n }
     ensures within { result + bytes_of_header rings.now.plan ≤ (side_plan_of rings.now.plan rings.now.side).size }

@@ -130,7 +130,7 @@ pub fn has_index_word(rings: &QueueRings) -> bool
     index_word_at(rings) + 4 <= memory_bytes(rings.plan(), rings.side())
 }
 
-/// The index word of the lane that the side sends.
+/// The index word of the lane that the side sends, which has to lie wholly in the side's memory.
 pub fn index_word(rings: &QueueRings, pair: &Pair) -> u32
     requires plan { pair.now.plan ≡ rings.now.plan }
     requires within { own_index_word rings.now.plan rings.now.side rings.now.queue + 4 ≤ memory_size rings.now.plan rings.now.side }
@@ -139,7 +139,7 @@ pub fn index_word(rings: &QueueRings, pair: &Pair) -> u32
     word(rings, pair, index_word_at(rings))
 }
 
-/// The same where the peer's windows fit the side's memory, and so it lies there.
+/// The index word of the lane that the side sends, where the sides' windows fit, so that it lies in the side's memory.
 pub fn tail(rings: &QueueRings, pair: &Pair) -> u32
     requires plan { pair.now.plan ≡ rings.now.plan }
     requires fit { SizesFit rings.now.plan }

@@ -155,8 +155,8 @@ impl Receiver {
         }
     }
 
-    /// An entry was found, which has `len` bytes and is followed by `left` entries of its frame: room is taken for its bytes
-    /// and promised for its index write. Running out of memory leaves receiver and pair as they were.
+    /// An entry was found, which has `len` bytes and is followed by `left` entries of its frame: room is taken for its
+    /// bytes and promised for its index write. Running out of memory leaves receiver and pair as they were.
     pub fn find(
         &mut self,
         pair: &mut Pair,

@@ -21,8 +21,8 @@ use std::marker::Model;
 use std::rc::Rc;
 use step_kinds::{PairPlan, Side};
 
-/// The rings of one queue of one side: the one that it sends to in the peer's memory, and the one that it receives in in its
-/// own. They never change, and a copy shares the pair's plan.
+/// The rings of one queue of one side: the one that it sends to in the peer's memory, and the one that it receives in
+/// in its own. They never change, and a copy shares the pair's plan.
 #[derive(Drop)]
 pub struct QueueRings {
     plan: Rc<PairPlan, Global>,
@@ -68,11 +68,12 @@ impl QueueRings {
         })
     }
 
-    /// The rings of the same queue.
+    /// The rings of the same queue, which share the plan with these. It takes no memory.
     ///
     /// # Errors
     ///
-    /// [`AllocError`] where the plan has as many copies as can be counted.
+    /// [`AllocError`] where `usize::MAX` copies of these rings share the plan already, since its [`Rc`] can't count one
+    /// more. No memory has room for so many.
     pub fn copy_of(&self) -> Result<QueueRings, AllocError>
         ensures { IfOk result (λ copy. copy ≡ self.now) }
     {

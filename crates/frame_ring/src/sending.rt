@@ -78,7 +78,7 @@ impl Sender {
         })
     }
 
-    /// How many entries were begun, and how many will be with those that wait.
+    /// How many entries were begun, those that wait with them.
     pub fn begun(&self) -> u64
         ensures value { result ≡ self.now.sending.begun + length self.now.sending.waiting }
         ensures few { result ≤ most_numbers }
@@ -94,7 +94,7 @@ impl Sender {
         self.told
     }
 
-    /// Whether writes of a frame are left to post.
+    /// Whether writes of a frame or link-down entry are left to post.
     pub fn is_busy(&self) -> bool
         ensures { result ≡ is_busy_by self.now.sending }
     {
@@ -119,7 +119,7 @@ impl Sender {
             )
     }
 
-    /// How many.
+    /// How many writes of the frame or link-down entry under way are left to post.
     pub fn left(&self) -> usize
         ensures value { result ≡ count_left self.now }
         ensures few { result ≤ most_writes_left }
@@ -158,7 +158,7 @@ impl Sender {
         payload_of(&self.frame, self.largest, self.piece)
     }
 
-    /// How many entries of its frame follow it.
+    /// How many entries of its frame follow the entry at hand.
     pub fn followers(&self) -> u32
         ensures { result ≡ left_of self.now.sending.entry }
     {

@@ -61,7 +61,8 @@ zeroed_both plan side queue from middle to bytes front rest n least below = elim
   | inr behind ↦ rest n behind below
 ]
 
--- The last of some headers lies in the memory where the last one that is still looked at does, or where headers after that one were looked at.
+-- The last of some headers lies in the memory where the last one that is still looked at does, or where headers after
+-- that one were looked at.
 pub last_within : (plan : PairPlan) (side : Side) (queue to count : ℕ) (bytes : List ℕ) → to ≤ count → (to < count → own_header plan side queue (count - 1) + header_bytes plan ≤ length bytes)
     → own_header plan side queue (to - 1) + header_bytes plan ≤ length bytes → own_header plan side queue (count - 1) + header_bytes plan ≤ length bytes
 last_within plan side queue to count bytes fewer before here = elim (cases_lt to count) [

@@ -1,4 +1,5 @@
--- Headers that are zero: how a test tells, that zeros written elsewhere leave them so, and that zeros written there change nothing.
+-- Headers that are zero: how a test tells, that zeros written elsewhere leave them so, and that zeros written there
+-- change nothing.
 use Rattle.std.proofs.Common.{◌≡◌, ℕ, ◌+◌, ◌-◌, ◌≤◌, Bool, true, false, List, [], ◌∷◌, ◌++◌, length, get_or, take, drop, map, replicate, nat_eq, IsTrue, inl, inr, refl, sym, ap, ◌∙◌, subst, arith}
 use Rattle.std.proofs.lemmas.Bool.{cases_lt}
 use Rattle.std.specs.Cmp.Lexicographic.{pointwise, same_text, other_text}

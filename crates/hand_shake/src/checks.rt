@@ -26,9 +26,9 @@ const QUEUES_PAD: u32 = 2;
 
 const WINDOWS_PAD: u32 = 3;
 
-/// A side reads the peer's offer in its own scratchpads. Where it agrees with the side's own numbers, the side is up: it
-/// zeroes all headers of the rings that it receives in, so that no old flag is taken for an entry, and sets its index words
-/// to say that no entry is taken. Versions that differ agree where both are 4 at least.
+/// A side reads the peer's offer in its own scratchpads. Where it agrees with the side's own numbers, the side is up.
+/// It then zeroes all headers of the rings that it receives in, so that no old flag is taken for an entry. It also sets
+/// its index words to say that no entry is taken. Versions that differ agree where both are 4 at least.
 ///
 /// Where the answer would be [`CheckAnswer::Up`], the windows that the peer's plan has fit those that the side's memory
 /// gives; on pairs whose scratchpads hold nothing but offers this follows.

@@ -1,6 +1,7 @@
 //! The headers of the rings that a side receives in.
 //!
-//! A ring may have millions of entries, of which few were written to: headers on pages that aren't there are passed over.
+//! A ring may have millions of entries, of which few were written to: headers on pages that aren't there are passed
+//! over.
 
 ghost use Rattle.std.specs.Prelude.{◌≡◌, ◌↔◌, ◌+◌, ◌-◌, ◌<◌, ◌≤◌, IsTrue, OnOk, length, replicate};
 ghost use Rattle.plan_numbers.specs.Memories.{memory_size, WindowsFit};
@@ -25,8 +26,9 @@ use step_kinds::{PairPlan, Side};
 // The headers whose slots have so many bytes are looked at together, and so are more of them where no page is there.
 const TOGETHER_BYTES: u32 = 1024;
 
-/// Promises the pages of the headers of the rings that a side receives in, but for headers that are zero already. So a ring
-/// that was never written to takes no memory.
+/// Promises the pages of the headers of the rings that a side receives in, but for headers that are zero already. So a
+/// ring that was never written to takes no memory. The only error is running out of memory, and then some of these
+/// pages may be promised.
 pub fn promise_headers(pair: &mut Pair, side: Side) -> Result<(), AllocError>
     requires { WindowsFit pair.old.plan side }
     ensures grown { OnlyPagesGrow (TouchesHeader pair.old.plan side (bytes_of pair.old side)) side pair.old pair.new }
@@ -110,8 +112,8 @@ fn zero_header(pair: &mut Pair, side: Side, ring: &Geometry, n: u32)
     pair.local_write(side, at, &zeros[..len]);
 }
 
-// Of the first `count` headers of a ring, how many there are up to the last one that isn't zero: none where all are zero. It
-// looks at a few together, or, as long as these are zero, at twice as many each time.
+// Of the first `count` headers of a ring, how many there are up to the last one that isn't zero: none where all are
+// zero. It looks at a few together, or, as long as these are zero, at twice as many each time.
 fn up_to_nonzero(pair: &Pair, side: Side, ring: &Geometry, count: u32) -> u32
     requires fit { WindowsFit pair.now.plan side }
     requires ring { IsReceivingRing pair.now.plan side ring.now }
@@ -165,8 +167,8 @@ fn up_to_nonzero_from(pair: &Pair, side: Side, ring: &Geometry, from: u32, to: u
     from
 }
 
-// Whether the headers from one on up to another are zero for sure: they are where all bytes from the first one's beginning to
-// the last one's end are. A few bytes are read, and of more it is asked whether no page is there.
+// Whether the headers from one on up to another are zero for sure: they are where all bytes from the first one's
+// beginning to the last one's end are. A few bytes are read, and of more it is asked whether no page is there.
 fn are_zero(pair: &Pair, side: Side, ring: &Geometry, from: u32, to: u32) -> bool
     requires fit { WindowsFit pair.now.plan side }
     requires ring { IsReceivingRing pair.now.plan side ring.now }

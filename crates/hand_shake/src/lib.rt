@@ -2,7 +2,12 @@
 //! queues are ready and joined. `ntb_transport` agrees on versions, queues, windows and link bits in the same way
 //! (Linux `Documentation/driver-api/ntb.rst`).
 //!
-//! Each call tests its refusals in the order in which its answers stand, and a refusal changes nothing.
+//! A refusal changes nothing. Each call tests its refusals in this order:
+//!
+//! - [`offer`]: `LinkDown`, `Already`;
+//! - [`check`]: `LinkDown`, `Already`, `NotYet`, `Version`, `Queues`, `Windows`, `Size`;
+//! - [`ready`]: `LinkDown`, `NotChecked`, `Already`;
+//! - [`join`]: `LinkDown`, `NotReady`, `Already`, `NotYet`.
 #![tactic(auto)]
 
 mod checks;
@@ -72,7 +77,7 @@ pub enum CheckAnswer {
 /// The answer to [`ready`].
 #[derive(Clone, Copy, Debug, PartialEq, Eq)]
 pub enum ReadyAnswer {
-    /// The queue is ready on this side, and the peer is told.
+    /// The queue is ready on this side, and the word of it is posted to the peer.
     Ok,
     /// The queue was ready before.
     Already,

@@ -19,8 +19,9 @@ use plan_numbers::{high_half, low_half, side_plan};
 use std::alloc::AllocError;
 use step_kinds::{Side, SidePlan};
 
-/// A side posts the next scratchpad of its offer to the peer: the high and the low half of the size of each of its windows,
-/// then its numbers of windows and of queues, and last its version, so that the peer sees a version only after all else.
+/// A side posts the next scratchpad of its offer to the peer. First come the high and the low half of the size of each
+/// of its windows, then its numbers of windows and of queues, and last its version. So the peer sees a version only
+/// after all else.
 ///
 /// # Errors
 ///
@@ -76,7 +77,8 @@ fn next_pad(pair: &Pair, side: Side) -> OfferedPad
     offered_pad(&side_plan(pair.plan(), side), pair.book(side).offered)
 }
 
-/// A side posts a scratchpad of the peer while the link is up, and asks for the room itself.
+/// A side posts a scratchpad of the peer while the link is up, and asks for the room itself. The only error is running
+/// out of memory, and then nothing changes.
 pub fn post_pad(pair: &mut Pair, side: Side, index: u32, value: u32) -> Result<(), AllocError>
     requires among { index < 16 }
     requires up { IsTrue (is_link_up pair.old.link.state) }

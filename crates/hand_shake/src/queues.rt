@@ -16,8 +16,8 @@ use step_kinds::Side;
 // The scratchpad in which the peer says which of its queues are ready.
 const LINKS_PAD: u32 = 1;
 
-/// A side says that a queue is ready: the queue joins the side's ready set, and the scratchpad of link bits with exactly
-/// that set is posted to the peer. The queue has to be one of the side's.
+/// A side says that a queue is ready: the queue joins the side's ready set, and the scratchpad of link bits with
+/// exactly that set is posted to the peer. The queue has to be one of the side's.
 ///
 /// # Errors
 ///
@@ -45,8 +45,8 @@ pub fn ready(pair: &mut Pair, side: Side, queue: u32) -> Result<ReadyAnswer, All
     Ok(ReadyAnswer::Ok)
 }
 
-/// A side joins a queue that it has said to be ready, where the peer has said so too: the queue joins the side's joined set,
-/// and frames may go. The queue has to be one of the side's. It takes no memory.
+/// A side joins a queue that it has said to be ready, where the peer has said so too: the queue joins the side's joined
+/// set, and frames may go. The queue has to be one of the side's. It takes no memory.
 pub fn join(pair: &mut Pair, side: Side, queue: u32) -> JoinAnswer
     requires { queue < (side_plan pair.old.plan side).queues }
     ensures answer { result ≡ join_answer pair.old side queue }

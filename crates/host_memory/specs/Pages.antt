@@ -1,4 +1,5 @@
--- How pages hold a memory's bytes: a page that isn't there reads as zeros. And how they stand in a table, by their numbers.
+-- How pages hold a memory's bytes: a page that isn't there reads as zeros. And how they stand in a table, by their
+-- numbers.
 use Rattle.std.specs.Prelude.{◌≡◌, ℕ, ◌/◌, ◌%◌, Option, Some, None, List, map, option_map, slice_get, slice_index, slice_index_or}
 use Rattle.std.specs.Box.{with_value}
 use Rattle.std.specs.List.{range_with_len}

@@ -14,37 +14,37 @@ ghost use Rattle.host_memory.specs.Laws.{
   WrittenInside,
 };
 
-/// Inside a write each byte is the written one.
+/// Inside a write each byte is the written one. Premise: the write lies in the memory.
 pub fn written_inside()
     ensures { WrittenInside }
 {}
 
-/// Outside a write each byte is the old one.
+/// Outside a write each byte is the old one. Premise: the write lies in the memory.
 pub fn old_outside()
     ensures { OldOutside }
 {}
 
-/// A write leaves the memory's length.
+/// A write leaves the memory's length. Premise: the write lies in the memory.
 pub fn length_stays()
     ensures { LengthStays }
 {}
 
-/// A read at the place of a write gives what was written.
+/// A read at the place of a write gives what was written. Premise: the write lies in the memory.
 pub fn reads_back()
     ensures { ReadsBack }
 {}
 
-/// A read that shares no byte with a write gives what it gave before.
+/// A read that lies before or after a write gives what it gave before. Premise: the write lies in the memory.
 pub fn reads_elsewhere()
     ensures { ReadsElsewhere }
 {}
 
-/// A word is read back as it was written.
+/// A word is read back as it was written. Premises: it has 32 bits, and its four bytes lie in the memory.
 pub fn word_reads_back()
     ensures { WordReadsBack }
 {}
 
-/// A word that shares no byte with a write is what it was before.
+/// A word that lies before or after a write is what it was before. Premise: the write lies in the memory.
 pub fn word_elsewhere()
     ensures { WordElsewhere }
 {}

@@ -86,8 +86,8 @@ impl Memory {
         self.promised.len()
     }
 
-    /// Whether no page is there of those that the `len` bytes from the address `at` on touch, which then are all 0. They
-    /// have to lie in the memory; no bytes touch no page.
+    /// Whether no page is there of those that the `len` bytes from the address `at` on touch, which then are all 0.
+    /// They have to lie in the memory; no bytes touch no page.
     pub fn is_blank(&self, at: u64, len: u64) -> bool
         requires { at + len ≤ length self.now.bytes }
         ensures absent { IsTrue result ↔ AreAbsent at len self.now.promised }
@@ -106,8 +106,8 @@ impl Memory {
         }
     }
 
-    /// Whether two memories have the same bytes at all addresses from one up to another, which have to lie in both. Pages
-    /// that neither has aren't looked at. It takes no memory.
+    /// Whether two memories have the same bytes at all addresses from one up to another, which have to lie in both.
+    /// Pages that neither has aren't looked at. It takes no memory.
     pub fn has_same_between(&self, other: &Memory, from: u64, to: u64) -> bool
         requires here { to ≤ length self.now.bytes }
         requires there { to ≤ length other.now.bytes }
@@ -233,8 +233,8 @@ impl Memory {
         self.has_same_on_page(other, first, (end - first) as usize)
     }
 
-    // Whether the `len` bytes from the address `at` on are the same in two memories. They have to lie in both, and on one
-    // page. A page that isn't there reads as zeros.
+    // Whether the `len` bytes from the address `at` on are the same in two memories. They have to lie in both, and on
+    // one page. A page that isn't there reads as zeros.
     fn has_same_on_page(&self, other: &Memory, at: u64, len: usize) -> bool
         requires here { at + len ≤ length self.now.bytes }
         requires there { at + len ≤ length other.now.bytes }

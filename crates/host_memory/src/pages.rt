@@ -13,8 +13,8 @@ type Group = Vec<Option<Page>>;
 // How many pages a group has at most.
 const GROUP_PAGES: u64 = 512;
 
-/// The pages that are there, by their numbers. The first [`GROUP_PAGES`] numbers are of the first group, and so on. There
-/// are only so many groups, and in a group only so many places, as the pages that were put there needed.
+/// The pages that are there, by their numbers. The first [`GROUP_PAGES`] numbers are of the first group, and so on.
+/// There are only so many groups, and in a group only so many places, as the pages that were put there needed.
 #[derive(Drop)]
 pub struct Pages {
     groups: Vec<Group>,
@@ -32,7 +32,7 @@ impl Pages {
         }
     }
 
-    /// The same pages, each with the same bytes.
+    /// The same pages, each with the same bytes. The only error is running out of memory.
     pub fn copy_of(&self, alloc: Global) -> Result<Pages, AllocError>
         ensures { IfOk result (λ copy. bytes_by_group copy.groups.items ≡ bytes_by_group self.now.groups.items) }
     {

@@ -8,8 +8,8 @@ pub trait Gate: Sync {
     /// given, so it may count on them: index an array by the worker's number, say. One that doesn't say lets all pass.
     ghost lets: { Self → ℕ → ℕ → Type 0 } = { λ _ _ _. Unit {0} };
 
-    /// A worker, by its number, passes before its turn with this number. A run counts a worker's turns from 0 in each
-    /// session.
+    /// A worker, by its number, passes before its turn with this number; the gate has to let it (`lets`). A run counts
+    /// a worker's turns from 0 in each session.
     fn at(&self, worker: u32, turn: u64)
         requires { lets self.now worker turn };
 }

@@ -7,7 +7,8 @@ ghost use Rattle.io_edges.specs.Streams.{Reads, Writes};
 use crate::{Failed, Sink, Source};
 use std::io::{Read, Write};
 
-/// A reader or a writer of the standard library, with the faults that were counted of it. It keeps no buffer of its own.
+/// A reader or a writer of the standard library, with the faults that were counted of it. It keeps no buffer of its
+/// own.
 #[derive(Drop)]
 pub struct StdStream<T> {
     inner: T,

@@ -59,14 +59,14 @@ const PIECE: usize = 65_536;
 /// 1` bytes at most. Each read but the last one gives a byte: nothing is read after the end, after a fault or
 /// after a byte too many.
 ///
-/// `Ok` has all the bytes, and the source is at its end.
+/// Where the source tells its bytes, `Ok` has all of them, and none is left.
 ///
 /// # Errors
 ///
 /// [`ReadError::TooLong`] exactly where more than `limit` bytes were taken, which are then `limit + 1`.
 /// [`ReadError::ReadFault`] only where a read failed, and [`ReadError::OutOfMemory`] only when out of memory: at most
-/// `limit` bytes from the front of the source are taken then. In every case but `ReadFault` the source's count of faults
-/// stays.
+/// `limit` bytes from the front of the source are taken then. In every case but `ReadFault` the source's count of
+/// faults stays.
 pub fn read_all<S: Source>(
     alloc: Global,
     source: &mut S,
@@ -145,7 +145,7 @@ fn read_piece<S: Source>(
 ///
 /// # Errors
 ///
-/// `WriteFault` where a write failed: a part from the front of the bytes may have gone out then.
+/// `WriteFault` where a write failed: a part from the front of the bytes, but not all, may have gone out then.
 pub fn write_all<K: Sink>(sink: &mut K, bytes: &[u8]) -> Result<(), WriteFault>
     ensures all { OnOk result (HoldsAll (K.held sink.old) (K.held sink.new) bytes.now) }
     ensures part { OnErr result (HoldsPart (K.held sink.old) (K.held sink.new) bytes.now) }

@@ -76,7 +76,8 @@ has_returned l place write returning answer after law =
 pub returned_answer : {l : Inside} {place n : ℕ} {returning : Flight IndexWrite} {value : LaneValue} → HasReturned l place n returning → value_seen l ≡ value → Landed (Index l.queue n) ≡ land_index_answer value place
 returned_answer {l = l} {place = place} {n = n} landed seen = subst (λ (value : LaneValue). Landed (Index l.queue n) ≡ land_index_answer value place) seen (sym landed.answer)
 
--- where it answers that none stands at the place, or that one is blocked, nothing changes, and the lane answers the same
+-- where it answers that none stands at the place, or that one is blocked, nothing changes, and the lane answers the
+-- same
 pub record IsUnmoved (l : Inside) (place : ℕ) (returning : Flight IndexWrite) (answer : LaneLand) : Type 0 where
   pub same : returning ≡ l.returning
   pub after : after_land_index (lane_seen l) place ≡ lane_seen l

@@ -47,8 +47,8 @@ pub record Buffers (phase : Phase) (part : ℕ) (bytes copied : List ℕ) (capac
   pub items : phase ≡ Copying → copied ≡ take (chunk_size * part) bytes
   pub room : phase ≡ Copying → length bytes ≤ capacity
 
--- few entries were begun, a slot's payload is at most the longest frame, each write in flight has its order, and there is
--- room in flight for what is left to post
+-- few entries were begun, and a slot's payload is at most the longest frame. Each write in flight has its order, and
+-- there is room in flight for what is left to post.
 pub record SendingStands (begun largest : ℕ) (strict : Bool) (left : ℕ) (flight : Flight PostedWrite) : Type 0 where
   pub few : begun ≤ 2 ^ 46
   pub small : largest ≤ most_frame_bytes

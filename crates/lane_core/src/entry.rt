@@ -38,7 +38,7 @@ impl Entry {
         }
     }
 
-    /// How many chunks its bytes are.
+    /// How many chunks its bytes are, 512 at most.
     pub fn chunks(&self) -> u32
         ensures value { result ≡ chunks_in (length (bytes_of (entry_seen self.now))) }
         ensures few { result ≤ 512 }

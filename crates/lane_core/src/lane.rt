@@ -109,9 +109,10 @@ impl Lane {
     /// The frame has a byte at least. No link-down entry was begun on the lane before, since after it comes no other,
     /// and fewer than 2^46 entries were begun.
     ///
-    /// [`Begun::TooLong`], [`Begun::Busy`] and [`Begun::NoRoom`] are tested in this order, and change nothing. Room is
-    /// read from the next entry's slot and the index word (`ntb_transport` too), so an entry that was given back is
-    /// free only once its index write has landed. A lost link doesn't matter here: a cut lane begins entries as before.
+    /// [`Begun::TooLong`] where the frame has more bytes than a slot takes, [`Begun::Busy`] where writes are left to
+    /// post, and [`Begun::NoRoom`] where no entry is free. They are tested in this order, and change nothing. Room is
+    /// read from the next entry's slot and the index word (`ntb_transport` too), so an entry is free again only once
+    /// its index write has landed. A lost link doesn't matter here: a cut lane begins entries as before.
     ///
     /// # Errors
     ///
@@ -142,7 +143,8 @@ impl Lane {
     ///
     /// As for [`Lane::begin`], no link-down entry was begun before, and fewer than 2^46 entries were begun.
     ///
-    /// [`Begun::Busy`] and [`Begun::NoRoom`] are tested in this order, and change nothing.
+    /// [`Begun::Busy`] where writes are left to post, and then [`Begun::NoRoom`] where no entry is free. Neither
+    /// changes anything.
     ///
     /// # Errors
     ///
@@ -189,7 +191,7 @@ impl Lane {
     }
 
     /// Posts the next write of the entry that was begun last, and answers its label. It is last of those in flight
-    /// then; once the link was cut it is lost instead, and the label is answered all the same, since nobody tells a
+    /// then. Once the link was cut it is lost instead, and the label is answered all the same, since nobody tells a
     /// sender that a posted write went nowhere. `None` exactly where no write is left to post, and then nothing
     /// changes.
     pub fn post(&mut self) -> Option<Label>
@@ -204,12 +206,12 @@ impl Lane {
     }
 
     /// Lands the write at a place of those in flight towards the receiver, counted from 0 for the one that was posted
-    /// first: what it writes stands in its entry's slot then (the doorbell writes nothing there), and the others in
+    /// first. What it writes stands in its entry's slot then (the doorbell writes nothing there), and the others in
     /// flight keep their order.
     ///
-    /// [`LaneLand::Nothing`] where no more than `place` writes are in flight, and else [`LaneLand::Blocked`] where the
-    /// write may not pass one before it: where it is strict and not at place 0 (PCI Express Base 4.0, section 2.4).
-    /// Neither changes anything. What was in flight when the link was cut still lands.
+    /// The answer is [`LaneLand::Nothing`] where no more than `place` writes are in flight. Else it is
+    /// [`LaneLand::Blocked`] where the write may not pass one before it: where it is strict and not at place 0 (PCI
+    /// Express Base 4.0, section 2.4). Neither changes anything. What was in flight when the link was cut still lands.
     pub fn land(&mut self, place: usize) -> LaneLand
         ensures answer { result ≡ land_answer self.old place }
         ensures after { self.new ≡ with_lane self.old (after_land self.old place) }
@@ -226,7 +228,7 @@ impl Lane {
         }
     }
 
-    /// Lands the index write at a place of those in flight back to the sender, counted from 0: the index word is its
+    /// Lands the index write at a place of those in flight back to the sender, counted from 0. The index word is its
     /// entry's slot then, and the entry is free (`ntb_transport` writes its receiver's index back in the same way).
     ///
     /// [`LaneLand::Nothing`] where no more than `place` index writes are in flight, and else [`LaneLand::Blocked`]
@@ -314,9 +316,9 @@ impl Lane {
         }
     }
 
-    /// Clears the flags in the slot of the frame that was copied, and answers its number: the slot is empty for the
-    /// next round (`ntb_transport` clears them before it gives the entry back). `None` exactly where the receiver has
-    /// not just copied a frame whole, and then nothing changes.
+    /// Clears the flags in the slot of the frame that was copied, and answers its number. The slot is empty for the
+    /// next round then (`ntb_transport` clears the flags before it gives the entry back). `None` exactly where the
+    /// receiver has not just copied a frame whole, and then nothing changes.
     pub fn clear(&mut self) -> Option<u64>
         ensures answer { result ≡ clear_answer self.old.lane }
         ensures after { self.new ≡ with_lane self.old (after_clearing self.old.lane) }

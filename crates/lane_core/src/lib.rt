@@ -1,10 +1,10 @@
 //! One lane in one session, as a pure state: a sender, a receiver, the posted writes between them, and the ring that
 //! they share.
 //!
-//! The sender begins entries and posts their writes, the bridge lands these in any order that PCI Express allows (Base
-//! 4.0, section 2.4), and the receiver looks for the next entry by its flags, copies it in parts, clears the flags and
-//! writes an index back (`ntb_transport` moves frames in this way). After each call the law of the ring holds, so that
-//! what is copied is the entry that was begun, whole.
+//! The sender begins entries and posts their writes, and the bridge lands these in any order that PCI Express allows
+//! (Base 4.0, section 2.4). The receiver looks for the next entry by its flags, copies it in parts, clears the flags
+//! and writes an index back (`ntb_transport` moves frames in this way). After each call the law of the ring holds, so
+//! that what is copied is the entry that was begun, whole.
 //!
 //! Contracts see a [`Lane`] as the model's lane, with its queue and whether its writes are strict beside it. Entries
 //! are numbered from 0 in their session, slots of the ring and places in flight from 0. Only [`Lane::new`],

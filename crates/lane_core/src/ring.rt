@@ -15,7 +15,7 @@ use lane_model::{Field, Write};
 use std::alloc::{AllocError, Global};
 use step_kinds::Label;
 
-/// A ring of so many zeroed slots.
+/// A ring of so many zeroed slots. The only error is running out of memory.
 pub fn zeroed_ring(alloc: Global, entries: u32, largest: u32) -> Result<Vec<Slot>, AllocError>
     ensures { IfOk result (λ ring. map place_seen ring.items ≡ replicate entries (zeroed_slot largest)) }
 {
@@ -26,7 +26,7 @@ pub fn zeroed_ring(alloc: Global, entries: u32, largest: u32) -> Result<Vec<Slot
     Ok(ring)
 }
 
-/// The slot of the entry of this number, in a ring of `entries` slots.
+/// The slot of the entry of this number, in a ring of `entries` slots, 1 at least.
 pub fn position_of(entries: u32, number: u64) -> u32
     requires { 0 < entries }
     ensures value { result ≡ number % entries }
@@ -35,7 +35,7 @@ pub fn position_of(entries: u32, number: u64) -> u32
     (number % u64::from(entries)) as u32
 }
 
-/// The free entries of a ring, by the slot of the next entry and the index word.
+/// The free entries of a ring, by the slot of the next entry, which is below `entries`, and the index word.
 pub fn free_between(entries: u32, head: u32, tail: u32) -> u32
     requires { head < entries }
     ensures { result ≡ free_entries entries head tail }
@@ -47,7 +47,8 @@ pub fn free_between(entries: u32, head: u32, tail: u32) -> u32
     }
 }
 
-/// Stores what a write of the lane writes: a field or the flags of its entry, in the slot of that entry.
+/// Stores what a write of the lane writes: a field or the flags of its entry, in the slot of that entry. The ring has
+/// `entries` slots, the entry was begun and fits its slot, and the field begins within the entry's bytes.
 pub fn store(ring: &mut [Slot], entries: u32, sent: &[Entry], mark: Write)
     requires ring { length ring.old ≡ entries }
     requires can { CanStore (map place_seen ring.old) (map entry_seen sent.now) mark }
@@ -66,7 +67,7 @@ pub fn store(ring: &mut [Slot], entries: u32, sent: &[Entry], mark: Write)
     }
 }
 
-/// Puts these flags into the slot of the entry of this number.
+/// Puts these flags into the slot of the entry of this number. The ring has `entries` slots, 1 at least.
 pub fn put_flags(ring: &mut [Slot], entries: u32, number: u64, flags: u32)
     requires some { 0 < entries }
     requires ring { length ring.old ≡ entries }
@@ -77,7 +78,8 @@ pub fn put_flags(ring: &mut [Slot], entries: u32, number: u64, flags: u32)
 }
 
 /// Copies part `part` of the frame that stands in a slot after what was copied before, in room that was reserved, and
-/// answers whether more of the frame is left.
+/// answers whether more of the frame is left. The slot's length fits its payload, and the part begins no later than the
+/// frame ends.
 pub fn copy_chunk(copied: &mut Vec<u8>, place: &Slot, part: u32) -> bool
     requires begins { chunk_size * part ≤ place.now.len }
     requires stands { place.now.len ≤ length place.now.payload.items }
@@ -104,7 +106,7 @@ fn append_reserved(out: &mut Vec<u8>, bytes: &[u8])
     }
 }
 
-/// The label of a write of the lane on a queue.
+/// The label of a write of the lane on a queue. Where it writes flags, their entry was begun.
 pub fn label(queue: u32, sent: &[Entry], mark: Write) -> Label
     requires { IsKnown mark (length sent.now) }
     ensures { result ≡ label_of queue (entry_in (map entry_seen sent.now) (number_of mark)) mark }

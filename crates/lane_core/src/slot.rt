@@ -37,7 +37,8 @@ impl Slot {
     ghost use Rattle.lane_core.specs.Fresh.{zeroed_slot};
     ghost use Rattle.lane_core.specs.Parts.{entry_seen, place_seen, BeginsWithin};
 
-    /// A slot of which all bytes are zero, with room for payloads of up to `largest` bytes.
+    /// A slot of which all bytes are zero, with room for payloads of up to `largest` bytes. The only error is running
+    /// out of memory.
     pub fn zeroed(alloc: Global, largest: u32) -> Result<Slot, AllocError>
         ensures { IfOk result (λ place. place_seen place ≡ zeroed_slot largest) }
     {
@@ -49,7 +50,7 @@ impl Slot {
         })
     }
 
-    /// Stores a field of entry `number`.
+    /// Stores a field of entry `number`, which begins within the entry's bytes. These fit the payload.
     #[tactic(auto, using(crate::proofs::OnePiece::none_left))]
     pub fn put(&mut self, number: u64, entry: &Entry, field: Field)
         requires begins { BeginsWithin (entry_seen entry.now) field }

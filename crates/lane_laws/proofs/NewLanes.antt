@@ -8,8 +8,8 @@ use Rattle.lane_model.specs.Ring.{tail_of}
 use Rattle.lane_model.specs.declared.Write.{Write}
 use Rattle.lane_laws.proofs.LaneLaws.{fresh_holds}
 
--- it holds where the ring has its slots, each with room for the largest payload and no flags, where the index word says
--- that nothing was given back, and where no write of the lane is in flight
+-- it holds where the ring has its slots, two or more, each with room for the largest payload and no flags. The index
+-- word has to say that nothing was given back, and no write or index write of the lane may be in flight.
 pub empty_holds : (entries largest index_word : ℕ) (up : Bool) (ring : List Slot) (writes : List Write) (indexes : List ℕ) → 2 ≤ entries → length ring ≡ entries
     → ((k : ℕ) → k < entries → length (slice_index_or ring (k % entries) blank_slot).payload ≡ largest) → ((k : ℕ) → (slice_index_or ring (k % entries) blank_slot).flags ≡ 0)
     → index_word ≡ tail_of entries 0 → writes ≡ [] → indexes ≡ []

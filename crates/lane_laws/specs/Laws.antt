@@ -97,8 +97,8 @@ abbrev pub CopySees : Type 0
 CopySees = (lane : Lane) → lane.phase ≡ Copying → HoldsRingLaw lane → (lane.got < lane.flagged) × StandsWhole (slot_of lane lane.got) lane.got (entry_of lane lane.got)
     × (lane.part < copies_of (entry_of lane lane.got)) × Stands (slot_of lane lane.got) lane.got (entry_of lane lane.got) (Chunk lane.part)
 
--- what lands next: the flags of the first entry that has none, the index write of the first entry not given back,
--- and fields of entries that have no flags yet
+-- what lands next: the flags of the first entry that has none, and the index write of the first entry not given back.
+-- Fields in flight are of entries that have no flags yet.
 abbrev pub FlagIsNext : Type 0
 FlagIsNext = (lane : Lane) (n : ℕ) (rest : List Write) → lane.flight ≡ Flag n ∷ rest → HoldsRingLaw lane → (n ≡ lane.flagged) × (n < length lane.sent)
 

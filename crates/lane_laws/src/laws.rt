@@ -1,21 +1,22 @@
-//! The laws of a lane, each the clause of a function with an empty body: they hold of every lane, so that the crates
+//! The laws of a lane: each is the clause of a function with an empty body. They hold of every lane, so that the crates
 //! above cite them without proving anything anew.
 //!
-//! "The law" is the law of the ring, `HoldsRingLaw`. A function `.._keeps` says of one step: where the law holds of a
-//! lane, and the step's own premises, which its text names, then it holds of the lane after the step. What a slot or a
-//! word in memory shows to sender and receiver follows from the law alone. None has a premise on how the lane came to
-//! be.
+//! "The law" is the law of the ring, `HoldsRingLaw`. A function `.._keeps` says of one step: where the law and the
+//! step's own premises hold of a lane, the law holds of the lane after the step. The function's text names these
+//! premises. What a slot or a word in memory shows to sender and receiver follows from the law, and from the receiver's
+//! phase where the text names it. None has a premise on how the lane came to be.
 
 ghost use Rattle.lane_laws.specs.Laws.{FreshHolds, BeginKeeps, PostKeeps, LandDataKeeps, LandFlagKeeps, LandBellKeeps, LookKeeps, CopyKeeps, ClearKeeps, AckKeeps, IndexKeeps, CutKeeps, DropKeeps, ForgetKeeps, FreeIsRoom, LookSees, CopySees, FlagIsNext, IndexIsNext, DataIsAhead, NothingLeft, EachHasOneOwner};
 
-/// A lane at the start of its session has the law: two slots or more, each with room for the largest payload and
-/// without flags, the index word at the last slot, nothing begun, nothing in flight. What payloads stand there is free.
+/// A lane at the start of its session has the law. Such a lane has a ring of two slots or more, each with room for the
+/// largest payload and without flags, and the index word is at the last slot. Nothing was begun, nothing is in flight,
+/// all counts are 0, and the receiver is idle. What payloads stand in the slots is free.
 pub fn fresh_holds()
     ensures { FreshHolds }
 {}
 
-/// Beginning an entry keeps the law, where no write is left to post, head and index word show a free entry, the payload
-/// fits a slot, and no link-down entry was begun before.
+/// Beginning an entry keeps the law, where no write is left to post and head and index word show a free entry. The
+/// payload has to fit a slot, and no link-down entry may have been begun before.
 pub fn begin_keeps()
     ensures { BeginKeeps }
 {}
@@ -117,8 +118,8 @@ pub fn nothing_left()
     ensures { NothingLeft }
 {}
 
-/// Each slot of the ring has one owner at each moment: that of the entry which it is for, or the sender where no entry
-/// that was begun and not given back has it.
+/// Each slot of the ring has one owner at each moment: that of the entry which it is for. Where no entry that was begun
+/// and not given back has the slot, its owner is the sender.
 pub fn each_has_one_owner()
     ensures { EachHasOneOwner }
 {}

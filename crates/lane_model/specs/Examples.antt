@@ -1,4 +1,5 @@
--- Worked examples: what one frame of a byte does to a lane with a ring of two slots, step by step.
+-- Worked examples: what one frame of a byte does to a lane with a ring of two slots, step by step. Beside it stand a
+-- payload in parts, and a link-down entry.
 use Rattle.std.specs.Prelude.{◌≡◌, ℕ, true, false, List, [], ◌∷◌, replicate}
 use Rattle.lane_model.specs.Lane.{Entry, Carries, GoesDown, Lane, Slot, free_in, new_lane, writes_of}
 use Rattle.lane_model.specs.Ring.{head_of, tail_of, room_of}

@@ -1,6 +1,6 @@
 -- One lane in one session: what its sender began, what is on its way, the ring in the receiver's memory, and how far
--- each has come. `ntb_transport` moves frames in the same way: payload and header into a ring in the peer's memory,
--- then the header's DONE flag and a doorbell, and an index written back once the receiver is done.
+-- each has come. `ntb_transport` moves frames in the same way. Payload and header go into a ring in the peer's memory,
+-- then the header's DONE flag and a doorbell. An index is written back once the receiver is done.
 use Rattle.std.specs.Prelude.{ℕ, zero, suc, ◌+◌, ◌-◌, ◌*◌, ◌/◌, ◌%◌, ◌^◌, max, Bool, true, List, [], ◌∷◌, ◌++◌, length, map, take, drop, replicate, slice_index_or, slice_set}
 use Rattle.lane_model.specs.Ring.{head_of, free_entries}
 pub use Rattle.lane_model.specs.declared.Field.{Field}
@@ -10,8 +10,8 @@ pub use Rattle.lane_model.specs.declared.Write.TheVariants.{Data, Flag, Bell}
 use Rattle.lane_model.specs.declared.Phase.{Phase}
 use Rattle.lane_model.specs.declared.Phase.TheVariants.{Idle}
 
--- What a sender puts into one slot of the ring: a piece of a frame with the number of pieces that follow it, or the word
--- that this end of the queue goes down. A frame that fits one slot is one piece, and none is left.
+-- What a sender puts into one slot of the ring: a piece of a frame, or the word that this end of the queue goes down. A
+-- piece has the number of pieces that follow it. A frame that fits one slot is one piece, and none is left.
 pub data Entry : Type 0 where
   Carries : (bytes : List ℕ) (left : ℕ) → Entry
   GoesDown : Entry
@@ -63,7 +63,8 @@ pub record Lane : Type 0 where
   pub cleared : ℕ
   pub acked : ℕ
   pub freed : ℕ
-  -- where the receiver stands with entry `got`, and how many parts of it were copied
+  -- where the receiver stands with the entry that it looked at last; while it copies, that is entry `got`, and `part`
+  -- parts of it were copied
   pub phase : Phase
   pub part : ℕ
 

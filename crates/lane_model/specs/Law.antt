@@ -89,7 +89,8 @@ pub record WritesCome (flagged : ℕ) (sent : List Entry) (coming todo : List Wr
   pub left : AreLeftToLand flagged sent coming
   pub last : EndTheLast sent todo
 
--- the receiver finds DONE just where an entry stands whole; each field of an entry without its flags is to come or stands
+-- the receiver finds DONE just where an entry stands whole; each field of an entry without its flags is to come or
+-- stands
 pub record SlotsStand (entries : ℕ) (ring : List Slot) (sent : List Entry) (cleared flagged : ℕ) (coming : List Write) : Type 0 where
   pub whole : (n : ℕ) → cleared ≤ n → n < flagged → StandsWhole (slot_among entries ring n) n (entry_among sent n)
   pub empty : (n : ℕ) → flagged ≤ n → n < cleared + entries → (slot_among entries ring n).flags ≡ 0
@@ -101,8 +102,8 @@ pub record IndexesCome (entries freed acked index_word : ℕ) (coming : List ℕ
   pub returning : coming ≡ count_from freed (acked - freed)
   pub index_word_is : index_word ≡ tail_of entries freed
 
--- The law, `lost` being the writes that were posted, or were in flight, when the link was lost and will not land any
--- more, and `lost_back` the same of index writes.
+-- The law, `lost` being writes that will not land any more: posted after the link was lost, dropped from flight, or
+-- forgotten before they were posted. `lost_back` is the same of index writes.
 pub record RingLaw (lost : List Write) (lost_back : List ℕ) (lane : Lane) : Type 0 where
   pub room : HasSlots lane.entries lane.largest lane.ring
   pub frames : EntriesFit lane.largest lane.sent
@@ -121,16 +122,16 @@ HoldsRingLaw lane = (lost : List Write) × (lost_back : List ℕ) × RingLaw los
 pub data Owner : Type 0 where
   -- it is free for the sender's next entries
   Sender : Owner
-  -- writes to it are on their way
+  -- its entry was begun, and the entry's flags have not landed
   InFlight : Owner
   -- its flags say DONE and the receiver has not copied it whole
   Landed : Owner
-  -- the receiver has copied it and has not given it back
+  -- the receiver has copied it whole and has not posted its index write
   Receiver : Owner
-  -- the receiver has given it back and the sender has not heard of it
+  -- its index write was posted and has not landed
   Returning : Owner
 
--- the owner of the slot of entry n
+-- the owner of the slot of entry n, where n was begun and not given back; of any other number it says the sender
 abbrev pub owner_of : Lane → ℕ → Owner
 owner_of lane n =
     if nat_lt n lane.freed then Sender

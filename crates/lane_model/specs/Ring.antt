@@ -1,5 +1,5 @@
 -- The numbers of a ring with a fixed number of entries, of which one always stays free.
--- `begun` counts the entries that the sender ever began, `freed` those that the receiver gave back.
+-- `begun` counts the entries that the sender began in the session, `freed` those whose index write has landed.
 use Rattle.std.specs.Prelude.{ℕ, ◌+◌, ◌-◌, ◌%◌, if◌then◌else◌, nat_le}
 
 -- the slot of the next entry

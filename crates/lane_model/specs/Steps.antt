@@ -1,6 +1,6 @@
--- The steps of a lane, each in closed form: what a step changes where it is made. When it may be made, and what it
--- answers, is no matter of the model of a lane: the machine of a lane and the ledger of a cluster say it, each for its
--- own steps.
+-- The steps of a lane, each in closed form: what a step changes where it is made. When it may be made, `LaneSteps.antt`
+-- says, and so do the machine of a lane and the ledger of a cluster, each for its own steps. What it answers is no
+-- matter of the model of a lane: these two alone say it.
 use Rattle.std.specs.Prelude.{ℕ, ◌+◌, ◌%◌, Bool, false, List, [], ◌∷◌, ◌++◌, length, if◌then◌else◌, nat_lt}
 use Rattle.lane_model.specs.Lane.{Entry, Write, Data, Flag, Bell, Lane, bytes_of, chunks_in, writes_of, flags_of, entry_of, slot_of, ring_with, with_field, with_flags}
 use Rattle.lane_model.specs.declared.Phase.TheVariants.{Idle, Copying, Copied, Cleared}

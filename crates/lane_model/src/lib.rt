@@ -9,7 +9,7 @@
 pub mod examples;
 
 /// Where a receiver stands with the frame in the next slot of its ring. The order of the phases is that of
-/// `ntb_transport`'s receiver: it copies, clears the flags and writes the index back; that a script can put steps
+/// `ntb_transport`'s receiver: it copies, clears the flags and writes the index back. That a script can put steps
 /// between them is this project's own.
 #[derive(Clone, Copy, Debug, PartialEq, Eq)]
 pub enum Phase {
@@ -33,7 +33,7 @@ pub enum Field {
     Chunk { part: u32 },
     /// The length in the header: the bytes of the payload.
     Length,
-    /// The version in the header: the entry's number modulo 2^32.
+    /// The version in the header, the entry's number modulo 2^32, and with it how many entries of its frame follow.
     Version,
 }
 

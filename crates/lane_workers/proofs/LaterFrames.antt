@@ -6,8 +6,8 @@ use Rattle.std.proofs.Math.Seq.{take-append_seam, drop-append_seam}
 begins_with : (first later : List (List ℕ)) → take (length first) later ≡ first → later ≡ first ++ drop (length first) later
 begins_with first later begins = sym (take-append-drop (length first) later) ∙ ap (λ xs. xs ++ drop (length first) later) begins
 
--- of three lists, each the beginning of the next, the first is the beginning of the last; and what the last has more
--- is what the second has more, and then what the last has more than the second
+-- of three lists, each the beginning of the next, the first is the beginning of the last. What the last has more than
+-- the first is what the second has more, and then what the last has more than the second.
 pub record IsLater (first next last : List (List ℕ)) : Type 0 where
   pub begins : take (length first) last ≡ first
   pub came : drop (length first) last ≡ drop (length first) next ++ drop (length next) last

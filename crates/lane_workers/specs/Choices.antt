@@ -12,8 +12,8 @@ use Rattle.lane_workers.specs.declared.choices.Stage.TheVariants.{Taking, Storin
 abbrev pub most_held : ℕ
 most_held = 8
 
--- the choices of a pass: the state of the generator SplitMix64, what the mover does with the entries that it holds, how
--- many they are, and how many of them wait for their header
+-- the choices of a pass: the state of the generator SplitMix64, and what the mover does with the entries that it holds.
+-- `held` says how many they are, and `waiting` how many of them wait for their header.
 pub record Choosing : Type 0 where
   pub state : ℕ
   pub stage : Stage

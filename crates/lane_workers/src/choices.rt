@@ -22,8 +22,8 @@ enum Stage {
     StoringFlags,
 }
 
-/// The choices of a pass: some entries are taken, then their headers are stored in any order, then their flags. Contracts
-/// see the state of the generator, the stage, and the two counts.
+/// The choices of a pass: some entries are taken, then their headers are stored in any order, then their flags.
+/// Contracts see the state of the generator, the stage, and the two counts.
 #[derive(Drop)]
 pub(crate) struct Choices {
     words: SplitMix64,

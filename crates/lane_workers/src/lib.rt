@@ -2,7 +2,7 @@
 //!
 //! A pass makes at least one turn and at most as many as it is given, and answers how many. Before each turn it passes
 //! a [`Gate`](io_edges::Gate). It may end before its last turn: where nothing is left to do, or after [`IDLE_TURNS`]
-//! turns in a row that did nothing, so that its caller can let other threads run. It takes no memory and never waits for
+//! turns in a row that did nothing. Its caller can let other threads run then. It takes no memory and never waits for
 //! another worker.
 #![tactic(auto)]
 

@@ -37,8 +37,8 @@ fn recv_turn(end: &mut RecvEnd, got: &mut FrameList) -> Turn
 /// The pass may end early, where its turns did nothing for a while. It takes no memory and never waits for another
 /// worker.
 ///
-/// `got` has to have room for `turns` frames. `turns` is at least 1, and `first + turns` fits a `u64`. The gate has to let
-/// the worker pass before each turn.
+/// `got` has to have room for `turns` frames. `turns` is at least 1, and `first + turns` fits a `u64`. The gate has to
+/// let the worker pass before each turn.
 pub fn recv_pass<G: Gate>(
     end: &mut RecvEnd,
     got: &mut FrameList,

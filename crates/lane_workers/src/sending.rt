@@ -41,7 +41,7 @@ fn send_turn(end: &mut SendEnd, todo: &mut FrameList) -> Turn
 /// Makes at least 1 and at most `turns` turns of the worker that sends, and answers how many. Before each it passes the
 /// gate with the turn's number, counted from `first`. A turn with a frame in `todo` is one [`SendEnd::send`] of the
 /// first; a frame that is refused stands before the others again. So what was sent and what is left in `todo` are
-/// together what they were before, in the same order, and room that a frame leaves in `todo` is promised again.
+/// together what they were before, in the same order. Room that a frame leaves in `todo` is promised again.
 ///
 /// The pass may end early: where `todo` is empty, where the link was cut, or where its turns did nothing for a while.
 /// It takes no memory and never waits for another worker.

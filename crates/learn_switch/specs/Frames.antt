@@ -29,7 +29,8 @@ HasHeader bytes = header_bytes ≤ length bytes
 abbrev pub AllHaveHeaders : List (List (List ℕ)) → Type 0
 AllHaveHeaders lists = AllByRecursion (AllByRecursion HasHeader) lists
 
--- what always holds of a switch: as many inboxes as lists of waiting frames, stations on its ports, no short frame that waits
+-- what always holds of a switch: as many inboxes as lists of waiting frames, stations on its ports, no short frame that
+-- waits
 pub record IsSwitch (inboxes waiting : List (List (List ℕ))) (fdb : List Station) : Type 0 where
   pub same_ports : length inboxes ≡ length waiting
   pub few_ports : length waiting ≤ 16

@@ -76,8 +76,8 @@ impl Fdb {
         }
     }
 
-    /// A frame with this source came from a port. Unless the first byte of the address is odd, the station is learned:
-    /// a known one gets the port, and a new one is added where fewer than 256 are known. It takes no memory.
+    /// A frame with this source came from a port. Where the first byte of the address is odd, no station is learned.
+    /// Else a known station gets the port, and a new one is added where fewer than 256 are known. It takes no memory.
     pub fn learn_source(&mut self, source: &[u8; 6], port: u32)
         ensures { self.new ≡ learned_source self.old port source.now }
     {

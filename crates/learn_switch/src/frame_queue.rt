@@ -38,7 +38,7 @@ impl FrameQueue {
         Ok(())
     }
 
-    /// The first frame.
+    /// The first frame, if there is one.
     pub fn first(&self) -> Option<&Frame>
         ensures { option_copied result ≡ slice_get self.now 0 }
     {

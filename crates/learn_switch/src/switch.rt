@@ -15,8 +15,8 @@ use switch_model::RelayAnswer;
 
 /// A learning switch with 2 to 16 ports, numbered from 0.
 ///
-/// A frame that arrives on a port joins the port's inbox. A relay takes it from there, learns on which port its source
-/// is, and puts it where its destination is: into the waiting frames of one port, or of all others.
+/// A frame that arrives on a port joins the port's inbox. A relay takes it from there and learns on which port its
+/// source is. It puts the frame where its destination is: into the waiting frames of one port, or of all others.
 #[derive(Drop)]
 pub struct Switch {
     alloc: Global,
@@ -63,8 +63,8 @@ impl Switch {
     /// inbox, and these are tested in this order:
     ///
     /// 1. It has fewer than 14 bytes: [`RelayAnswer::Short`], and it is dropped.
-    /// 2. Its source, unless the address's first byte is odd, is learned with this port: a known station gets the port,
-    ///    and a new one is added where fewer than 256 are known.
+    /// 2. Its source, unless the address's first byte is odd, is learned with this port. By that a known station gets
+    ///    the port, and a new one is added where fewer than 256 are known.
     /// 3. Its destination has an odd first byte or isn't known: [`RelayAnswer::Flood`], and it joins the waiting frames
     ///    of all other ports.
     /// 4. Its destination is on this port: [`RelayAnswer::Filtered`], and it is dropped.

@@ -1,4 +1,5 @@
--- While the link is down, a side that is clean has nothing of a session, and a side that agreed to the next session is clean.
+-- While the link is down, a side that is clean has nothing of a session, and a side that agreed to the next session is
+-- clean.
 use Rattle.std.proofs.Common.{◌≡◌, ℕ, Bool, true, false, List, [], refl, sym, ap, ◌∙◌, inl, inr}
 use Rattle.std.specs.Prelude.{slice_get, replicate}
 use Rattle.std.proofs.lemmas.Bool.{both_ways, false≢true, cases_Bool}

@@ -1,5 +1,5 @@
--- What no step of a pair breaks holds of the pair after every log, on raw pairs too. The laws of one lane of an ordinary pair go by
--- the walk instead.
+-- What no step of a pair breaks holds of the pair after every log, on raw pairs too. The laws of one lane of an
+-- ordinary pair go by the walk instead.
 use Rattle.std.proofs.Common.{◌≡◌, ℕ, ◌==◌, List, [], ◌∷◌, ◌++◌, refl, sym, ap, subst, append_assoc, inl, inr}
 use Rattle.std.specs.Prelude.{if◌then◌else◌}
 use Rattle.std.specs.List.{AllByRecursion, list_all}
@@ -23,8 +23,8 @@ use Rattle.ledger_laws.proofs.LogGrowth.{made_by, left_by}
 use Rattle.ledger_laws.proofs.walk.Logs.{OwnTodos, todos_kept}
 use Rattle.ledger_laws.proofs.walk.Turn.{on_queue}
 
--- what holds of a log and of pair k at the start, and is broken by no step on it that is as it should be, the writes left to post
--- being their lanes', and by no step on another pair
+-- what holds of a log and of pair k at the start, and is broken neither by a step on it nor by one on another pair. The
+-- step on it has to be as it should be, and the writes left to post before it have to be their lanes'.
 pub record HoldsOfLog (plan : Plan) (k : ℕ) (Fits : Step → Type 0) (Inv : List Answered → PairPart → Type 0) : Type 0 where
   pub fresh : Inv [] (fresh_pair (pair_plan plan k))
   pub own : (log : List Answered) (bytes : Bytes) (pair : PairPart) (step : Step) → Fits step → subject_of step ≡ k → OwnTodos pair → Inv log pair

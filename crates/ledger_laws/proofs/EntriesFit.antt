@@ -1,4 +1,5 @@
--- Entries fit their ring: each has at most the bytes that a slot takes, and beside those begun or waiting one slot stays free.
+-- Entries fit their ring: each has at most the bytes that a slot takes, and beside those begun or waiting one slot
+-- stays free.
 use Rattle.std.proofs.Common.{◌≡◌, ℕ, zero, suc, ◌+◌, ◌<◌, ◌≤◌, true, false, List, [], ◌∷◌, ◌++◌, length, map, drop, refl, sym, ap, ◌∙◌, subst, inl, inr, arith}
 use Rattle.std.specs.Prelude.{◌≢◌, ◌*◌, slice_index_or, remove}
 use Rattle.std.specs.List.{AllByRecursion}

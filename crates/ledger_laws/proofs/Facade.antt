@@ -1,5 +1,5 @@
--- What crates above may cite of the proofs of this crate: the laws of every log, one name for each, how a log grows by a step, and
--- what the walk over its steps says of them.
+-- What crates above may cite of the proofs of this crate: laws of every log, one name for each. Beside them stand how a
+-- log grows by a step, and what the walk over its steps says of them.
 pub use Rattle.ledger_laws.proofs.AgainWhereNoRoom.{again_where_no_room}
 pub use Rattle.ledger_laws.proofs.AllTogether.{answers_are_right, are_ordinary, has_sides, laws_hold}
 pub use Rattle.ledger_laws.proofs.CopiedInParts.{copied_in_parts}

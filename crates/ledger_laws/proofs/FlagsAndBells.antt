@@ -1,5 +1,5 @@
--- Flags and doorbells of a lane that are left, in flight and then to post: each flag is followed by its doorbell, and a receiver that
--- saw nothing has nothing to look for, or its doorbell is pending or on its way.
+-- Flags and doorbells of a lane that are left, in flight and then to post: each flag is followed by its doorbell. A
+-- receiver that saw nothing has nothing to look for, or its doorbell is pending or on its way.
 use Rattle.std.proofs.Common.{◌≡◌, ℕ, zero, suc, ◌+◌, ◌==◌, Bool, true, false, Option, Some, None, List, [], ◌∷◌, ◌++◌, length, map, refl, sym, ap, ◌∙◌, inl, inr, ◌⊎◌, arith}
 use Rattle.std.specs.Prelude.{if◌then◌else◌, remove}
 use Rattle.std.specs.List.{filter_map, cons_option}

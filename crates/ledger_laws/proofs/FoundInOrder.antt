@@ -1,4 +1,5 @@
--- A look is answered `empty` or `peerdown` exactly where the log has no flags of a further entry, or those of a link-down entry.
+-- A look is answered `empty` or `peerdown` exactly where the log has no flags of a further entry, or those of a
+-- link-down entry.
 use Rattle.std.proofs.Common.{◌≡◌, ℕ, zero, suc, ◌+◌, ◌<◌, ◌≤◌, ◌==◌, Bool, true, false, not, ◌&&◌, Some, None, List, [], ◌∷◌, ◌++◌, length, map, refl, sym, ap, ◌∙◌, subst, append_assoc, arith, inl, inr, ◌⊎◌}
 use Rattle.std.specs.Prelude.{if◌then◌else◌, slice_get, slice_index_or, take}
 use Rattle.std.specs.List.{flat_map}

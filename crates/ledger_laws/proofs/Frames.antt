@@ -7,8 +7,8 @@ use Rattle.lane_model.specs.Lane.{Entry, Carries, GoesDown}
 use Rattle.ledger_laws.specs.Laws.{Begins, NumberedFrom, times_of}
 use Rattle.ledger_model.specs.Log.{Numbered}
 
--- The frames of entries, from a number and from bytes of a frame under way on: the pieces of a frame are joined up to the one that no
--- other follows; a link-down entry is no frame.
+-- The frames of entries, from a number and from bytes of a frame under way on. The pieces of a frame are joined up to
+-- the one that no other follows. A link-down entry is no frame.
 abbrev pub frames_from : ℕ → List ℕ → List Entry → List Numbered
 frames_from n rest [] = []
 frames_from n rest (GoesDown ∷ entries) = frames_from n rest entries

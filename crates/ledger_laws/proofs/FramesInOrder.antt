@@ -142,7 +142,8 @@ begun_kept plan lane s made news t no_raw turn coming h = record { after = comin
 
 -- What the receiver has of the frame under way
 
--- while it copies entry `got`, a piece: the bytes of the frame's entries before it, and of its own those of the parts copied
+-- while it copies entry `got`, a piece: the bytes of the frame's entries before it, and of its own those of the parts
+-- copied
 pub record Piece (sent : List Entry) (got part len left : ℕ) (gathered : List ℕ) : Type 0 where
   pub bytes : List ℕ
   pub there : slice_index_or sent got GoesDown ≡ Carries bytes left

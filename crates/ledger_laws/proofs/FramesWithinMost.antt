@@ -1,4 +1,4 @@
--- The bytes of a frame under way, with those of the entry that comes next, are no more than a frame may have; and a
+-- The bytes of a frame under way, with those of the entry that comes next, are no more than a frame may have. A
 -- receiver that copies an entry knows how many bytes it has.
 use Rattle.std.proofs.Common.{◌≡◌, ℕ, zero, suc, ◌+◌, ◌<◌, ◌≤◌, Bool, false, List, [], ◌∷◌, ◌++◌, length, take, refl, sym, ap, ◌∙◌, subst, inl, inr, arith}
 use Rattle.std.specs.Prelude.{slice_index_or}

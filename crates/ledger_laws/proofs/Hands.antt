@@ -1,4 +1,5 @@
--- A receiver that clears an entry clears the one that it took last, on raw pairs too: how its counts stand in each phase.
+-- A receiver that clears an entry clears the one that it took last, on raw pairs too: how its counts stand in each
+-- phase.
 use Rattle.std.proofs.Common.{◌≡◌, ℕ, ◌+◌, List, false, true, refl, sym, ap, subst, inl, inr, ◌⊎◌}
 use Rattle.std.proofs.lemmas.Bool.{false≢true, both_ways}
 use Rattle.step_kinds.specs.Bits.{has_bit}

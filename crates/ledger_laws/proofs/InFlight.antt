@@ -1,5 +1,5 @@
--- Lists of writes in flight: what is posted, what lands, how the writes of one kind stand among all; and that nothing is in flight on
--- a link that is down.
+-- Lists of writes in flight: what is posted, what lands, and how the writes of one kind stand among all. On a link that
+-- is down nothing is in flight.
 use Rattle.std.proofs.Common.{◌≡◌, ℕ, zero, suc, ◌+◌, ◌==◌, ◌||◌, Bool, true, false, not, Option, Some, None, List, [], ◌∷◌, ◌++◌, map, take, drop, refl, sym, ap, ◌∙◌, subst, arith}
 use Rattle.std.specs.Prelude.{if◌then◌else◌, slice_get, count_by, remove}
 use Rattle.std.specs.List.{filter_map, cons_option, list_all}

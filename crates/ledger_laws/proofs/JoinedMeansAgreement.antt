@@ -1,4 +1,5 @@
--- A side is up, and a queue is joined, only where the numbers of both sides agree: the side's own check has found so, or both sides' have.
+-- A side is up, and a queue is joined, only where the numbers of both sides agree: the side's own check has found so,
+-- or both sides' have.
 use Rattle.std.proofs.Common.{◌≡◌, ℕ, ◌≤◌, Bool, true, false, List, refl, sym, ap, ◌∙◌, inl, inr, ◌⊎◌, arith}
 use Rattle.std.specs.Prelude.{slice_index}
 use Rattle.std.proofs.lemmas.Bool.{false≢true}

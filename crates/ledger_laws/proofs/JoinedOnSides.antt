@@ -1,5 +1,5 @@
--- A queue is joined only on a side that is up. Only where it is joined is a device stopped, has a lane something left to
--- post at its sender, and is an entry in a receiver's hand.
+-- A queue is joined only on a side that is up. Only where it is joined is a device stopped, has a lane something left
+-- to post at its sender, and is an entry in a receiver's hand.
 use Rattle.std.proofs.Common.{◌≡◌, ℕ, ◌+◌, ◌||◌, Bool, true, false, not, Option, Some, None, List, [], ◌∷◌, ◌++◌, refl, sym, ap, ◌∙◌, inl, inr, ◌⊎◌}
 use Rattle.std.specs.Prelude.{if◌then◌else◌, slice_get}
 use Rattle.std.specs.List.{AllByRecursion}

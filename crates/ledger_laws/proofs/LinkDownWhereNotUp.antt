@@ -1,4 +1,5 @@
--- A step is answered `linkdown` exactly where it needs the link and the last link step of the pair left it not up.
+-- A step is answered `linkdown` exactly where it needs the link and the last link step of the pair that wasn't
+-- refused left it not up.
 use Rattle.std.proofs.Common.{◌≡◌, ℕ, Bool, true, false, not, ◌&&◌, List, refl, sym, ap, ◌∙◌}
 use Rattle.std.specs.Prelude.{if◌then◌else◌}
 use Rattle.std.proofs.lemmas.Bool.{not-false}

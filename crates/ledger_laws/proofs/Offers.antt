@@ -1,4 +1,5 @@
--- What a side offers in the handshake: scratchpads alone, each once, the version last; and what they leave in the peer's scratchpads.
+-- What a side offers in the handshake: scratchpads alone, each once, the version last; and what they leave in the
+-- peer's scratchpads.
 use Rattle.std.proofs.Common.{◌≡◌, ℕ, zero, suc, Bool, true, false, None, List, [], ◌∷◌, ◌++◌, map, refl, ◌+◌, ◌<◌, ◌≤◌, ◌==◌, not, Option, Some, take, drop, sym, ap, ◌∙◌, inl, inr, ◌⊎◌, arith, append_assoc, ◌&&◌}
 use Rattle.std.specs.Prelude.{◌/◌, ◌%◌, slice_index_or, if◌then◌else◌, nat_lt}
 use Rattle.std.specs.List.{list_all, flat_map, filter_map}

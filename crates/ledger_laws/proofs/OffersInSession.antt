@@ -1,5 +1,6 @@
--- In a session of an ordinary pair, what landed of the peer's offer and then what is in flight is what the peer has offered so far,
--- and the scratchpads of a side that made no check show what landed. The side is the lane's sender, its peer the receiver.
+-- In a session of an ordinary pair, what landed of the peer's offer and then what is in flight is what the peer has
+-- offered so far. The side's scratchpads show what landed. Both hold while the side isn't up. The side is the lane's
+-- sender, its peer the receiver.
 use Rattle.std.proofs.Common.{◌≡◌, ℕ, ◌+◌, ◌<◌, ◌≤◌, ◌==◌, Bool, true, false, Option, Some, None, List, [], ◌∷◌, ◌++◌, length, take, refl, sym, ap, ◌∙◌, subst, inl, inr, arith, append_assoc}
 use Rattle.std.specs.Prelude.{if◌then◌else◌, nat_lt, slice_index, slice_index_or, slice_set, remove}
 use Rattle.std.specs.List.{cons_option}

@@ -1,5 +1,5 @@
--- What no step on a pair breaks holds of the pair after every log: for facts of a pair that no lane has in sight. And what a
--- landing write changes of its pair.
+-- What no step on a pair breaks holds of the pair after every log: for facts of a pair that no lane has in sight. And
+-- what a landing write changes of its pair.
 use Rattle.std.proofs.Common.{◌≡◌, ℕ, List, refl}
 use Rattle.std.specs.List.{AllByRecursion}
 use Rattle.step_kinds.specs.Sides.{other_side}
@@ -19,7 +19,8 @@ use Rattle.ledger_laws.proofs.EachPair.{log_after}
 use Rattle.ledger_laws.proofs.LogGrowth.{left_by}
 use Rattle.ledger_laws.proofs.walk.Logs.{OwnTodos}
 
--- what holds of a pair at the start, and is broken by no step on it that is as it should be, the writes left to post being their lanes'
+-- what holds of a pair at the start, and is broken by no step on it that is as it should be, the writes left to post
+-- being their lanes'
 pub record HoldsOfPair (plan : Plan) (pair : ℕ) (Fits : Step → Type 0) (P : PairPart → Type 0) : Type 0 where
   pub fresh : P (fresh_pair (pair_plan plan pair))
   pub steps : (bytes : Bytes) (part : PairPart) (step : Step) → Fits step → subject_of step ≡ pair → OwnTodos part → P part → P (left_by plan pair bytes part step)

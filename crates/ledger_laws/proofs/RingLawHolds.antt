@@ -1,4 +1,5 @@
--- Whenever the receiver of a lane is up, the law of the ring holds of the lane; whenever the sender is, the index word is the tail.
+-- Whenever the receiver of a lane is up, the law of the ring holds of the lane; whenever the sender is, the index word
+-- is the tail.
 use Rattle.std.proofs.Common.{◌≡◌, ℕ, ◌*◌, ◌/◌, ◌<◌, ◌≤◌, Bool, true, false, List, length, replicate, refl, sym, ap, ◌∙◌, subst, inl, inr, arith}
 use Rattle.std.specs.Prelude.{slice_index_or}
 use Rattle.std.proofs.Math.Nat.{le-div_iff_mul-le, min-le_right, div-mul-le_self}

@@ -1,5 +1,5 @@
--- The ring that the log leaves of a lane: while the receiver is up the law of the ring holds of the lane, with the index word read as the
--- tail, and while the sender is up the index word is the tail.
+-- The ring that the log leaves of a lane. While the receiver is up the law of the ring holds of the lane, with the
+-- index word read as the tail. While the sender is up the index word is the tail.
 use Rattle.std.proofs.Common.{◌≡◌, ℕ, zero, suc, ◌+◌, ◌-◌, ◌%◌, ◌<◌, ◌≤◌, ◌==◌, Bool, true, false, Option, Some, None, List, [], ◌∷◌, ◌++◌, length, map, take, drop, refl, sym, ap, ◌∙◌, subst, inl, inr, arith, mod-lt, length-set, get_or-set_same, get_or-set_other}
 use Rattle.std.specs.Prelude.{if◌then◌else◌, slice_index_or, slice_set, remove, nat_lt}
 use Rattle.std.specs.List.{AllByRecursion}

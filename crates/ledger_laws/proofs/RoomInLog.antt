@@ -1,4 +1,5 @@
--- The log knows the room of a lane's ring: the entries that were begun and those that were given back, and the index writes in flight.
+-- The log knows the room of a lane's ring: the entries that were begun and those that were given back, and the index
+-- writes in flight.
 use Rattle.std.proofs.Common.{◌≡◌, ℕ, suc, zero, ◌+◌, ◌-◌, ◌<◌, ◌≤◌, ◌&&◌, Bool, true, false, List, [], ◌∷◌, ◌++◌, length, refl, sym, ap, ◌∙◌, inl, inr, arith, ◌⊎◌}
 use Rattle.std.specs.Prelude.{if◌then◌else◌, ◌==◌, None, Some, count_by, map, remove, sum}
 use Rattle.std.specs.List.{fold}

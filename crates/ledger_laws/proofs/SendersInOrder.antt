@@ -151,7 +151,8 @@ module _ (plan : Plan) (memories : Memories) (steps : List Step) where
   abbrev After : Step → Answer
   After step = (outcome_in plan (memories (log_of plan memories steps)) (ledger_of plan memories steps) step).answer
 
-  -- by the ledger: the side may send, its frame of so many bytes is too long, its lane is busy, and its device is stopped
+  -- by the ledger: the side may send, its frame of so many bytes is too long, its lane is busy, and its device is
+  -- stopped
   abbrev May : ℕ → Side → ℕ → Bool
   May p side queue = link_up (Pair p) && (has_bit (side_of (Pair p) side).joined queue && not (has_bit (side_of (Pair p) side).closed queue))
 

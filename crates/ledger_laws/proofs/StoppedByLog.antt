@@ -1,5 +1,5 @@
--- A device is stopped in the ledger exactly where it is by the log; and then its side hasn't forgotten the session, so that the log
--- knows the room of its ring.
+-- A device is stopped in the ledger exactly where it is by the log. Where it is stopped its side hasn't forgotten the
+-- session, so that the log knows the room of its ring.
 use Rattle.std.proofs.Common.{◌≡◌, ℕ, ◌-◌, ◌==◌, ◌&&◌, ◌||◌, Bool, true, false, List, [], ◌∷◌, ◌++◌, length, refl, sym, ap, ◌∙◌, append_assoc}
 use Rattle.std.specs.Prelude.{if◌then◌else◌, nat_lt}
 use Rattle.std.proofs.lemmas.Bool.{false≢true, eq-eqb, ne_eqb, cond-true, cond-false}

@@ -1,4 +1,5 @@
--- In every log, on raw pairs too, the ledger's tallies count the frames that a lane accepted and delivered in a session.
+-- In every log, on raw pairs too, the ledger's tallies count the frames that a lane accepted and delivered in a
+-- session.
 use Rattle.std.proofs.Common.{◌≡◌, ℕ, ◌+◌, ◌==◌, Bool, true, false, List, [], ◌∷◌, ◌++◌, length, refl, sym, ap, ◌∙◌, subst, inl, inr, ◌⊎◌, arith}
 use Rattle.std.specs.Prelude.{count_by, if◌then◌else◌}
 use Rattle.std.specs.List.{flat_map}

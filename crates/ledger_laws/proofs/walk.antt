@@ -1,4 +1,5 @@
--- One walk over the steps: what each step of a pair is for one of its lanes, shown once. A law is a match over `Turn` and names no pair.
+-- One walk over the steps: what each step of a pair is for one of its lanes, shown once. A law is a match over `Turn`
+-- and names no pair.
 pub mod Sight
 pub mod News
 pub mod Turn

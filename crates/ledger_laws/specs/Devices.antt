@@ -1,5 +1,5 @@
--- When a device on a queue is stopped, as a log says it, and where a ring has no room. A device stands on a side and a queue of a
--- pair, and is named as the lane on which it sends.
+-- When a device on a queue is stopped, as a log says it, and where a ring has no room. A device stands on a side and a
+-- queue of a pair, and is named as the lane on which it sends.
 use Rattle.std.specs.Prelude.{◌==◌, Bool, true, false, ◌&&◌, not, List, [], ◌∷◌, ◌++◌, nat_lt, if◌then◌else◌}
 use Rattle.step_kinds.specs.Sides.{same_side}
 use Rattle.step_kinds.specs.declared.names.LaneName.{LaneName}
@@ -14,8 +14,9 @@ use Rattle.plan_model.specs.Plans.{dev_plan}
 use Rattle.ledger_laws.specs.Drivers.{FoundAs, fits_queue, has_left, may_begin, queue_named}
 use Rattle.ledger_laws.specs.Laws.{entries_needed, is_again}
 
--- whether it is stopped after an entry of the log, `now` being whether it was before, and `log` the log with that entry: a frame of
--- it stops it where fewer entries are free then than its `stop`; a wake that is made, and a clean of its side, end that
+-- whether it is stopped after an entry of the log, `now` being whether it was before, and `log` the log with that
+-- entry. A frame of it that is begun stops it where fewer entries are free then than its `stop`. A wake, and a clean of
+-- its side, end that where they are made.
 abbrev pub stop_next : Plan → LaneName → List Answered → Bool → Answered → Bool
 stop_next plan own log now made = told made.step made.answer where
   told : Step → Answer → Bool
@@ -36,7 +37,8 @@ abbrev pub is_stopped_answer : Answer → Bool
 is_stopped_answer Stopped = true
 is_stopped_answer answer = false
 
--- a frame of a stopped device, which no test before stops; and a wake of one, while fewer entries are free than its `start`
+-- a frame of a stopped device, which no test before stops; and a wake of one, while fewer entries are free than its
+-- `start`
 abbrev pub finds_stopped : Plan → List Answered → Step → Bool
 finds_stopped plan log (Xbegin pair side queue dev dst kind payload) =
     let own = queue_named pair side queue in

@@ -1,5 +1,5 @@
--- What the driver of a queue is told by a log: the answers to its own side's steps, and when a session began. From that it knows
--- whether a step will be refused as not ready, closed or busy.
+-- What the driver of a queue is told by a log: the answers to its own side's steps, and when a session began. With
+-- whether the link is up, that says whether a step will be refused as not ready, closed, too long or busy.
 use Rattle.std.specs.Prelude.{◌≡◌, ℕ, ◌+◌, ◌-◌, ◌==◌, Bool, true, false, ◌&&◌, not, List, [], ◌∷◌, length, nat_lt, slice_index_or, sum_by, if◌then◌else◌}
 use Rattle.std.specs.List.{flat_map, fold}
 use Rattle.step_kinds.specs.Sides.{other_side, same_side}
@@ -20,8 +20,9 @@ use Rattle.plan_model.specs.Plans.{dev_plan, pair_plan, side_plan}
 use Rattle.plan_model.specs.Sizes.{sizes_of}
 use Rattle.ledger_laws.specs.Laws.{GoesOn, IsOrdinaryPair}
 
--- A queue of a side, named as the lane on which the side sends: whether the side has it ready, joined and closed, how many writes
--- of its frames are left to post, whether an entry that it received isn't given back yet, and how many entries it cleared.
+-- What the driver of a side's queue knows: whether the side has it ready, joined and closed, and how many writes of its
+-- entries are left to post. It also knows whether an entry that the side received isn't given back yet, and how many
+-- entries the side cleared. The queue is named as the lane on which the side sends.
 pub record Driver : Type 0 where
   pub ready : Bool
   pub joined : Bool
@@ -112,7 +113,7 @@ finds_closed plan log (Xbegin pair side queue dev dst kind payload) = up_at plan
 finds_closed plan log (Look pair side queue) = is_shut (driver_after plan log (queue_named pair side queue))
 finds_closed plan log step = false
 
--- the side may send on the queue, and of its frame before something is left to post
+-- the side may send on the queue; the frame isn't longer than any may be; something that the side began is left to post
 abbrev pub may_begin : Plan → List Answered → LaneName → Bool
 may_begin plan log own = up_at plan own.pair log && ((driver_after plan log own).joined && not (driver_after plan log own).closed)
 

@@ -1,5 +1,5 @@
--- What a side has in flight towards its peer, as a log says it: what it posted while the link was up, less what landed and what was
--- dropped, in the order of posting.
+-- What a side has in flight towards its peer, as a log says it: what it posted while the link was up, in the order of
+-- posting. What landed and what was dropped isn't among it.
 use Rattle.std.specs.Prelude.{◌≡◌, ℕ, ◌+◌, ◌==◌, Bool, true, false, ◌&&◌, List, [], ◌∷◌, ◌++◌, length, remove, slice_index_or, if◌then◌else◌}
 use Rattle.std.specs.List.{fold}
 use Rattle.step_kinds.specs.Sides.{same_side}
@@ -18,8 +18,8 @@ use Rattle.plan_model.specs.Pads.{links_pad, offers}
 use Rattle.plan_model.specs.Plans.{pair_plan, side_plan}
 use Rattle.ledger_laws.specs.Laws.{IsOrdinaryPair}
 
--- of a side: whether its pair's link is up, how many of its numbers it has offered and which queues it has said are ready since its
--- last clean, and what it has in flight
+-- of a side: whether its pair's link is up, how many of its numbers it has offered, which queues it has said are ready,
+-- and what it has in flight. What it has offered and said is counted since its last clean.
 pub record Outbox : Type 0 where
   pub up : Bool
   pub offered : ℕ

@@ -19,7 +19,8 @@ use Rattle.plan_model.specs.Sizes.{layout_of, sizes_of}
 use Rattle.ledger_laws.specs.LaneChanges.{LaneChange, Unchanged, LinkIsLost, FlightIsDropped, EntryIsBegun, WriteIsPosted, WriteLands, IndexLands, EntryIsFound, PartIsCopied, FlagsAreCleared, IndexIsPosted, change_of}
 use Rattle.ledger_laws.specs.Laws.{GoesOn, IsOrdinaryOn, IsOrdinaryPair}
 
--- the steps that a change of a lane is: none, or one; where a piece of a frame waits, the first post of it begins it too
+-- the steps that a change of a lane is: none, or one; where a piece of a frame waits, the first post of it begins it
+-- too
 abbrev pub AreStepsFor : LaneChange → List LaneStep → Type 0
 AreStepsFor Unchanged steps = steps ≡ []
 AreStepsFor LinkIsLost steps = steps ≡ Cut ∷ []
@@ -44,8 +45,9 @@ pub record AreBothUp (now : PairPart) (from : Side) : Type 0 where
   pub sender : (side_of now from).up ≡ true
   pub receiver : (side_of now (other_side from)).up ≡ true
 
--- Where both sides of an ordinary pair are up before a step and after it, the lane that is shown after the step comes from the one
--- before it by the steps that the step's answer says: by none where it is refused or another lane's.
+-- Let both sides of an ordinary pair be up before a step and after it. Then the lane that is shown after the step comes
+-- from the one before it by the steps that the step's answer says. There are none where the step is refused or another
+-- lane's.
 abbrev pub EachStepIsOfTheLane : Type 0
 EachStepIsOfTheLane = (plan : Plan) (memories : Memories) (steps : List Step) (step : Step) (answer : Answer) (name : LaneName) →
     let pair = pair_plan plan name.pair in
@@ -57,8 +59,9 @@ EachStepIsOfTheLane = (plan : Plan) (memories : Memories) (steps : List Step) (s
     MovesByLaneSteps (change_of name (record { step = step; answer = answer })) (shown_lane sizes now (ring_of plan memories steps name) name.from name.queue)
     (shown_lane sizes next (ring_of plan memories (steps ++ step ∷ []) name) name.from name.queue)
 
--- A lane is shown fresh where both its sides are up before any step, and by each step after which they are and before which they
--- weren't: nothing was begun, nothing of it is in flight, no slot has flags, and the index word says that all entries but one are free.
+-- A lane is shown fresh where both its sides are up before any step, and by each step after which they are and before
+-- which they weren't. Nothing was begun then, nothing of it is in flight, no slot has flags, and the index word says
+-- that all entries but one are free.
 pub record BeginsFresh (plan : Plan) (memories : Memories) (name : LaneName) : Type 0 where
   pub at_start :
       let pair = pair_plan plan name.pair in

@@ -70,7 +70,8 @@ lane_begun_by (QpDown pair side queue) = Some (record { pair = pair; from = side
 lane_begun_by (Xbegin pair side queue dev dst kind payload) = Some (record { pair = pair; from = side; queue = queue })
 lane_begun_by step = None
 
--- how many entries a step needs on the lane on which it begins them: one for each piece of a frame, and one for a link-down entry
+-- how many entries a step needs on the lane on which it begins them: one for each piece of a frame, and one for a
+-- link-down entry
 abbrev pub entries_needed : Plan → LaneName → Step → ℕ
 entries_needed plan lane (Begin pair side queue frame) = pieces_in (sizes_of (pair_plan plan lane.pair) lane.from lane.queue).largest (length frame)
 entries_needed plan lane (Xbegin pair side queue dev dst kind payload) =
@@ -81,7 +82,8 @@ entries_needed plan lane step = 1
 abbrev pub sender_refused : PairPart → Side → ℕ → Bool
 sender_refused now side queue = not (link_up now) || (not (has_bit (side_of now side).joined queue) || has_bit (side_of now side).closed queue)
 
--- where it may send no frame of so many bytes: it is longer than any may be, or of the frame before it something is left to post
+-- where it may send no frame of so many bytes: it is longer than any may be, or of the frame before it something is
+-- left to post
 abbrev pub frame_refused : Sizes → PairPart → Side → ℕ → ℕ → Bool
 frame_refused sizes now side queue len = sender_refused now side queue || (nat_lt sizes.most len || is_busy (lane_of now side queue))
 
@@ -123,15 +125,15 @@ abbrev pub is_link_down : Answer → Bool
 is_link_down LinkDown = true
 is_link_down answer = false
 
--- `linkdown` comes exactly on those, exactly where the last link step of the pair left it not up
+-- `linkdown` comes exactly on those, exactly where the pair's link isn't up by the log (`up_at`)
 abbrev pub LinkDownWhereNotUp : Type 0
 LinkDownWhereNotUp = (plan : Plan) (memories : Memories) (steps : List Step) (step : Step) (answer : Answer) → GoesOn plan memories steps step answer →
     is_link_down answer ≡ (needs_link step && not (up_at plan (subject_of step) (log_of plan memories steps)))
 
 -- Agreement
 
--- a side whose numbers are as the law of a check needs them: a version that fits a scratchpad, few queues and windows, and sizes from
--- 4096 bytes on. This asks less than a script's declaration does, which `IsSide` of plan_model says.
+-- a side whose numbers are as the law of a check needs them: a version that fits a scratchpad, few queues and windows,
+-- and sizes from 4096 bytes on. This asks less than a script's declaration does, which `IsSide` of plan_model says.
 pub record HasNumbersInRange (side : SidePlan) : Type 0 where
   pub a_version : 0 < side.version
   pub few_versions : side.version < word
@@ -146,7 +148,8 @@ pub record HasNumbersInRange (side : SidePlan) : Type 0 where
 abbrev pub HasSidesInRange : Plan → Type 0
 HasSidesInRange plan = (pair : ℕ) (side : Side) → pair < length plan.pairs → HasNumbersInRange (side_plan (pair_plan plan pair) side)
 
--- a step that an ordinary pair may see: nothing but the handshake writes the scratchpads below 12, and no bytes are poked
+-- a step that an ordinary pair may see: nothing but the handshake writes the scratchpads below 12, and no bytes are
+-- poked
 abbrev pub IsOrdinary : Step → Type 0
 IsOrdinary (Spad pair side i value) = 12 ≤ i
 IsOrdinary (Poke pair side window offset bytes) = ⊥
@@ -156,7 +159,7 @@ IsOrdinary step = Unit {0}
 abbrev pub IsOrdinaryOn : ℕ → Step → Type 0
 IsOrdinaryOn pair step = subject_of step ≡ pair → IsOrdinary step
 
--- the versions that two sides declare are one, or both are known to the newer of them
+-- the versions that two sides declare are one, or both are 4 at least
 abbrev pub VersionsAgree : ℕ → ℕ → Type 0
 VersionsAgree seen own = (seen ≡ own) ⊎ ((4 ≤ seen) × (4 ≤ own))
 
@@ -246,7 +249,8 @@ pub record IsQuiet (log : List Answered) (now : PairPart) (pair : ℕ) (side : S
   pub not_pending : has_bit (side_of now side).pending queue ≡ false
   pub looked : last_look_empty log pair side queue ≡ true
 
--- then all that was flagged was taken, and all that was accepted in the session was delivered
+-- then each entry that was begun has its flags landed and was taken, and all that was accepted in the session was
+-- delivered
 pub record IsDone (plan : Plan) (log : List Answered) (now : PairPart) (lane : LaneName) : Type 0 where
   pub all_taken : (lane_of now lane.from lane.queue).got ≡ (lane_of now lane.from lane.queue).flagged
   pub all_flagged : (lane_of now lane.from lane.queue).flagged ≡ length (lane_of now lane.from lane.queue).sent
@@ -268,8 +272,8 @@ labels_from queue n (entry ∷ entries) = labels_of queue n entry ++ labels_from
 abbrev pub has_forgotten : PairPart → Side → Bool
 has_forgotten now side = is_down now.link.state && at_side now.link.clean side
 
--- what was posted on a lane in the session, and then what is left to post, are the writes of the entries begun, until the sender
--- has forgotten the session
+-- what was posted on a lane in the session, and then what is left to post, are the writes of the entries begun, until
+-- the sender has forgotten the session
 abbrev pub PostedAreWrites : Type 0
 PostedAreWrites = (plan : Plan) (memories : Memories) (steps : List Step) (lane : LaneName) →
     let now = ledger_of plan memories steps lane.pair in
@@ -282,16 +286,16 @@ PostedAreWrites = (plan : Plan) (memories : Memories) (steps : List Step) (lane 
 abbrev pub parts_in : ℕ → ℕ
 parts_in len = max 1 (chunks_in len)
 
--- this part of an entry was answered `copied`: it is the next one of the entry that was found last; and where it is the entry's last
--- part, the entry is followed by others of its frame
+-- this part of an entry was answered `copied`: it is the next one of the entry that was found last. Where it is the
+-- entry's last part, the entry is followed by others of its frame.
 pub record FitsPart (looked : Option Looked) (left number part : ℕ) : Type 0 where
   pub len : ℕ
   pub of_found : looked ≡ Some (record { number = number; len = len; copies = part })
   pub among : part < parts_in len
   pub followed : part + 1 ≡ parts_in len → 0 < left
 
--- a copy was answered `frame` with this number: it is the last part of the entry that was found last, which no other of its frame
--- follows, and so many frames were delivered before in the session
+-- a copy was answered `frame` with this number: it is the last part of the entry that was found last, which no other of
+-- its frame follows. So many frames were delivered before in the session.
 pub record FitsFrame (looked : Option Looked) (left given number : ℕ) : Type 0 where
   pub found : Looked
   pub of_found : looked ≡ Some found
@@ -299,23 +303,24 @@ pub record FitsFrame (looked : Option Looked) (left given number : ℕ) : Type 0
   pub followed_by_none : left ≡ 0
   pub its_number : number ≡ given
 
--- a clear was answered `cleared` with this number: it is that of the entry that was found last, and all its parts were copied
+-- a clear was answered `cleared` with this number: it is that of the entry that was found last, and all its parts were
+-- copied
 pub record FitsClear (looked : Option Looked) (number : ℕ) : Type 0 where
   pub found : Looked
   pub of_found : looked ≡ Some found
   pub all_parts : found.copies ≡ parts_in found.len
   pub its_number : found.number ≡ number
 
--- what a copy and a clear are answered, by the entry that was found last and the copies made of it since; `left` is the number of
--- entries that follow it in its frame, as it was found, and `given` that of the frames delivered before on the lane in the session
+-- what a copy and a clear are answered, by the entry found last and the copies made of it since. `left` is how many
+-- entries follow it in its frame, as found, and `given` how many frames the lane delivered before in the session.
 abbrev pub FitsLook : Option Looked → ℕ → ℕ → Answer → Type 0
 FitsLook looked left given (Copied number part) = FitsPart looked left number part
 FitsLook looked left given (Delivered number frame) = FitsFrame looked left given number
 FitsLook looked left given (Cleared number) = FitsClear looked number
 FitsLook looked left given answer = Unit {0}
 
--- an entry is copied in as many parts as it has chunks, one at least, which are numbered from 0 on: its last part is answered `frame`
--- where no other entry of the frame follows, and `copied` where one does, and the entry is cleared after it
+-- an entry is copied in as many parts as it has chunks, one at least, numbered from 0 on. Its last part is answered
+-- `frame` where no other entry of the frame follows, and `copied` where one does. The entry is cleared after it.
 abbrev pub CopiedInParts : Type 0
 CopiedInParts = (plan : Plan) (memories : Memories) (steps : List Step) (pair : ℕ) (side : Side) (queue : ℕ) (step : Step) (answer : Answer) →
     let log = log_of plan memories steps in

@@ -19,8 +19,8 @@ use Rattle.ledger_laws.specs.Laws.{IsOrdinaryOn, IsOrdinaryPair}
 abbrev pub with_tail : Sizes → LanePart → RingPart → RingPart
 with_tail sizes lane ring = record { ring = ring.ring; index_word = tail_of sizes.entries lane.freed }
 
--- Whenever the receiver's side is up, whatever the sender has of the session, the law of the ring holds of the lane: the index
--- word in the sender's memory, which the receiver doesn't read, counts as the tail.
+-- Whenever the receiver's side is up, whatever the sender has of the session, the law of the ring holds of the lane.
+-- The index word in the sender's memory, which the receiver doesn't read, counts as the tail.
 abbrev pub RingLawOfReceiver : Type 0
 RingLawOfReceiver = (plan : Plan) (memories : Memories) (steps : List Step) (name : LaneName) →
     let pair = pair_plan plan name.pair in
@@ -29,7 +29,8 @@ RingLawOfReceiver = (plan : Plan) (memories : Memories) (steps : List Step) (nam
     IsOrdinaryPair plan name.pair → AllByRecursion (IsOrdinaryOn name.pair) steps → HasRing (layout_of pair name.from name.queue) → (side_of now (other_side name.from)).up ≡ true →
     HoldsRingLaw (shown_lane sizes now (with_tail sizes (lane_of now name.from name.queue) (ring_of plan memories steps name)) name.from name.queue)
 
--- Whenever the sender's side is up, whatever the receiver has of the session, the index word says the entries that were given back.
+-- Whenever the sender's side is up, whatever the receiver has of the session, the index word says the entries that were
+-- given back.
 abbrev pub IndexWordIsTail : Type 0
 IndexWordIsTail = (plan : Plan) (memories : Memories) (steps : List Step) (name : LaneName) →
     let pair = pair_plan plan name.pair in

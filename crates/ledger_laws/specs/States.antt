@@ -102,8 +102,8 @@ IsOfEntry sent (Flag q n) = (n < length sent) × (entry_among sent n ≢ GoesDow
 IsOfEntry sent (Down q n) = (n < length sent) × (entry_among sent n ≡ GoesDown)
 IsOfEntry sent label = Unit {0}
 
--- a label that a side posted is of an entry of the lane that the side sends on the label's queue; an index write is of an entry that
--- was acknowledged, of the lane that it receives there
+-- a label that a side posted is of an entry of the lane that the side sends on the label's queue. An index write is of
+-- an entry that was acknowledged, of the lane that the side receives there.
 abbrev pub IsOfLane : PairPart → Side → Label → Type 0
 IsOfLane now side (Chunk q n part) = IsOfEntry (lane_of now side q).sent (Chunk q n part)
 IsOfLane now side (Len q n) = IsOfEntry (lane_of now side q).sent (Len q n)
@@ -132,8 +132,9 @@ abbrev pub LabelsAreOfEntries : Type 0
 LabelsAreOfEntries = (plan : Plan) (memories : Memories) (steps : List Step) (pair : ℕ) (side : Side) → IsOrdinaryPair plan pair →
     HasLabelsOfEntries (ledger_of plan memories steps pair) side
 
--- a label that a side of this pair can post by steps that a plan permits: it is on one of the side's queues, or it writes one of the
--- sixteen scratchpads, or, on a raw pair, bytes in a window that both sides have and within what the peer's memory gives
+-- a label that a side of this pair can post by steps that a plan permits. It is on one of the side's queues, or it
+-- writes one of the sixteen scratchpads, or, on a raw pair, bytes in a window. Both sides have that window, and the
+-- bytes lie within its size and what the peer's memory gives.
 abbrev pub IsPostable : PairPlan → Side → Label → Type 0
 IsPostable plan side (Chunk q n part) = q < (side_plan plan side).queues
 IsPostable plan side (Len q n) = q < (side_plan plan side).queues
@@ -180,8 +181,8 @@ abbrev pub FreedWereBegun : Type 0
 FreedWereBegun = (plan : Plan) (memories : Memories) (steps : List Step) (pair : ℕ) (from : Side) (queue : ℕ) → IsOrdinaryPair plan pair →
     (lane_of (ledger_of plan memories steps pair) from queue).freed ≤ length (lane_of (ledger_of plan memories steps pair) from queue).sent
 
--- a receiver that copies an entry knows how many bytes it has; and where an idle one of a joined queue has one before it,
--- the bytes of its frame so far are with the entry's no more than a frame may have
+-- a receiver that copies an entry knows how many bytes it has. Where an idle one of a joined queue has an entry before
+-- it, its frame's bytes so far are with the entry's no more than a frame may have.
 pub record KnowsItsFrame (most queue joined : ℕ) (lane : LanePart) : Type 0 where
   pub len_is : is_copying lane.phase ≡ true → lane.len ≡ length (bytes_of (entry_in lane lane.got))
   pub fits : has_bit joined queue ≡ true → is_idle lane.phase ≡ true → lane.got < length lane.sent → length lane.gathered + length (bytes_of (entry_in lane lane.got)) ≤ most

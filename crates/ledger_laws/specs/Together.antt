@@ -1,4 +1,5 @@
--- The laws together: what holds of the log of any steps that a plan permits, and what holds of the answer to one step more.
+-- The laws together: what holds of the log of any steps that a plan permits, and what holds of the answer to one step
+-- more.
 use Rattle.std.specs.Prelude.{◌≡◌, ℕ, ◌+◌, ◌<◌, ◌==◌, ◌&&◌, ◌⊎◌, true, false, Some, List, [], ◌∷◌, ◌++◌, count_by, length, map, not, slice_get, if◌then◌else◌}
 use Rattle.std.specs.List.{AllByRecursion}
 use Rattle.step_kinds.specs.Bits.{has_bit}
@@ -34,7 +35,8 @@ use Rattle.ledger_laws.specs.States.{AgreesWith, HasNothingInFlight}
 
 -- Of the log of steps, and of the ledger after them
 pub record HoldsLaws (plan : Plan) (memories : Memories) (steps : List Step) : Type 0 where
-  -- on an ordinary pair what a lane delivered in a session is a prefix of what it accepted there, and no frame comes twice
+  -- on an ordinary pair what a lane delivered in a session is a prefix of what it accepted there, and no frame comes
+  -- twice
   pub in_order : (lane : LaneName) (session : ℕ) → IsOrdinaryPair plan lane.pair → IsInOrder plan (log_of plan memories steps) lane session
   pub once : (lane : LaneName) (session n : ℕ) → IsOrdinaryPair plan lane.pair → times_of n (delivered plan (log_of plan memories steps) lane session) < 2
   -- where nothing is on its way to a receiver, and it has seen so, all that was accepted in the session was delivered
@@ -47,15 +49,16 @@ pub record HoldsLaws (plan : Plan) (memories : Memories) (steps : List Step) : T
       ≡ record { accepted = length (accepted plan (log_of plan memories steps) lane session); delivered = length (delivered plan (log_of plan memories steps) lane session) }
   pub sessions : (pair : ℕ) → (ledger_of plan memories steps pair).link.session ≡ first_session plan pair + count_by (trains pair) (log_of plan memories steps)
   pub counters : (own : LaneName) → (dev_of (ledger_of plan memories steps own.pair) own.from own.queue).counters ≡ counters_in plan (log_of plan memories steps) own
-  -- what was posted on a lane in the session, and then what is left to post, are the writes of its entries in order, until its sender
-  -- has forgotten the session
+  -- what was posted on a lane in the session, and then what is left to post, are the writes of its entries in order. So
+  -- it is until its sender has forgotten the session.
   pub posted : (lane : LaneName) → has_forgotten (ledger_of plan memories steps lane.pair) lane.from ≡ false →
       posted_in (log_of plan memories steps) lane ++ (lane_of (ledger_of plan memories steps lane.pair) lane.from lane.queue).todo
       ≡ labels_from lane.queue 0 (lane_of (ledger_of plan memories steps lane.pair) lane.from lane.queue).sent
-  -- what a side of an ordinary pair has in flight is what it posted while the link was up, less what landed and was dropped, in order
+  -- what a side of an ordinary pair has in flight is what it posted while the link was up, less what landed and was
+  -- dropped, in order
   pub in_flight : (pair : ℕ) (side : Side) → IsOrdinaryPair plan pair → (side_of (ledger_of plan memories steps pair) side).flight ≡ in_flight_by plan (log_of plan memories steps) pair side
-  -- nothing is in flight while a link is down; and what may land among all that a side has in flight may land in the part of its lane,
-  -- by the kinds alone
+  -- nothing is in flight while a link is down. What may land among all that a side has in flight may land in the part
+  -- of its lane, by the kinds alone.
   pub none_while_down : (pair : ℕ) (side : Side) → is_down (ledger_of plan memories steps pair).link.state ≡ true → HasNothingInFlight (side_of (ledger_of plan memories steps pair) side)
   pub lane_part : (pair : ℕ) (side : Side) (queue place : ℕ) (label : Label) → slice_get (side_of (ledger_of plan memories steps pair) side).flight place ≡ Some label →
       may_land (map (order_of (pair_plan plan pair) side) (side_of (ledger_of plan memories steps pair) side).flight) place ≡ true →
@@ -65,7 +68,8 @@ pub record HoldsLaws (plan : Plan) (memories : Memories) (steps : List Step) : T
       (side_of (ledger_of plan memories steps lane.pair) lane.from).up ≡ true → (side_of (ledger_of plan memories steps lane.pair) (other_side lane.from)).up ≡ true →
       HoldsRingLaw
       (shown_lane (sizes_of (pair_plan plan lane.pair) lane.from lane.queue) (ledger_of plan memories steps lane.pair) (ring_of plan memories steps lane) lane.from lane.queue)
-  -- while the receiver's side is up it holds with the tail in the place of the index word, which is the tail while the sender's is up
+  -- while the receiver's side is up it holds with the tail in the place of the index word, which is the tail while the
+  -- sender's is up
   pub ring_received : (lane : LaneName) → IsOrdinaryPair plan lane.pair → HasRing (layout_of (pair_plan plan lane.pair) lane.from lane.queue) →
       (side_of (ledger_of plan memories steps lane.pair) (other_side lane.from)).up ≡ true →
       HoldsRingLaw
@@ -74,7 +78,8 @@ pub record HoldsLaws (plan : Plan) (memories : Memories) (steps : List Step) : T
   pub index_word : (lane : LaneName) → IsOrdinaryPair plan lane.pair → HasRing (layout_of (pair_plan plan lane.pair) lane.from lane.queue) →
       (side_of (ledger_of plan memories steps lane.pair) lane.from).up ≡ true →
       (ring_of plan memories steps lane).index_word ≡ tail_of (sizes_of (pair_plan plan lane.pair) lane.from lane.queue).entries (lane_of (ledger_of plan memories steps lane.pair) lane.from lane.queue).freed
-  -- a side of an ordinary pair is up where its numbers agree with the peer's alone, and a queue is joined where all numbers do
+  -- a side of an ordinary pair is up where its numbers agree with the peer's alone, and a queue is joined where all
+  -- numbers do
   pub agreement : (pair : ℕ) (side : Side) → IsPairOf plan pair → IsOrdinaryPair plan pair → (side_of (ledger_of plan memories steps pair) side).up ≡ true →
       AgreesWith (side_plan (pair_plan plan pair) side) (side_plan (pair_plan plan pair) (other_side side))
   pub joined : (pair : ℕ) (side : Side) (queue : ℕ) → IsPairOf plan pair → IsOrdinaryPair plan pair → has_bit (side_of (ledger_of plan memories steps pair) side).joined queue ≡ true → Agree (pair_plan plan pair)
@@ -97,7 +102,8 @@ pub record IsRightAnswer (plan : Plan) (memories : Memories) (steps : List Step)
   pub copied : (pair : ℕ) (side : Side) (queue : ℕ) → (step ≡ Copy pair side queue) ⊎ (step ≡ Clear pair side queue) →
       FitsLook (looked_in (log_of plan memories steps) pair side queue) (lane_to (ledger_of plan memories steps pair) side queue).left
       (length (delivered plan (log_of plan memories steps) (record { pair = pair; from = other_side side; queue = queue }) (ledger_of plan memories steps pair).link.session)) answer
-  -- a check that brings a side up has found the peer's version, queues, windows and sizes, all landed in the session, and they agree
+  -- a check that brings a side up has found the peer's version, queues, windows and sizes, all landed in the session,
+  -- and they agree
   pub up : (pair : ℕ) (side : Side) → IsOrdinaryPair plan pair → step ≡ Check pair side → answer ≡ Up →
       Agrees (log_of plan memories steps) pair side (side_plan (pair_plan plan pair) side) (side_plan (pair_plan plan pair) (other_side side))
   -- a refusal changes nothing, but for a device's count of them

@@ -115,7 +115,8 @@ SecondSession =
     landed : List Answer
     landed = Landed (Pad 4 0) ∷ Landed (Pad 5 4096) ∷ Landed (Pad 3 1) ∷ Landed (Pad 2 1) ∷ Landed (Pad 0 4) ∷ []
 
--- in a closing link a flag lands and begin is refused; a drop empties the list, the landed frame is received, and a clean ends the queue
+-- in a closing link a flag lands and begin is refused; a drop empties the list, the landed frame is received, and a
+-- clean ends the queue
 abbrev pub BreakWithFlagInFlight : Type 0
 BreakWithFlagInFlight =
     drop 9 (answers small_pair []
@@ -208,8 +209,8 @@ TalliesCount =
     tally_of (ledger_of (plan_of small_pair []) no_memory (send small_pair 0 A 0 letter ++ send small_pair 0 A 0 letter ++ land_all 0 A 5 ++ receive 0 B 0 1) 0) A 0 1
     ≡ record { accepted = 2; delivered = 1 }
 
--- a device's frames are counted where they are accepted and where they are refused, and the frames that come to the peer's device
--- by their bytes, a short one apart
+-- a device's frames are counted where they are accepted and where they are refused, and the frames that come to the
+-- peer's device by their bytes, a short one apart
 abbrev pub CountersCount : Type 0
 CountersCount =
     map (counters_in plan log) (end A ∷ end B ∷ [])

@@ -1,5 +1,5 @@
--- The ledger of a cluster: what is so of each pair after the steps that were made. It knows lists, counts and labels, and no
--- memory, address, flag or version word.
+-- The ledger of a cluster: what is so of each pair after the steps that were made. It knows lists, counts and labels,
+-- and no memory, address, flag or version word.
 use Rattle.std.specs.Prelude.{ℕ, ◌+◌, ◌==◌, Bool, List, [], ◌∷◌, ◌++◌, length, slice_index_or, if◌then◌else◌}
 use Rattle.step_kinds.specs.Sides.{other_side}
 use Rattle.step_kinds.specs.declared.names.Side.{Side}
@@ -12,8 +12,8 @@ use Rattle.plan_model.specs.Both.{Both, at_side, with_side}
 use Rattle.plan_model.specs.Link.{Link, is_up}
 use Rattle.plan_model.specs.Sizes.{Sizes}
 
--- A lane in the pair's session: what its sender began, what its receiver found, and how far each is. The labels in flight
--- stand with the side that posted them.
+-- A lane in the pair's session: what its sender began, what its receiver found, and how far each is. The labels in
+-- flight stand with the side that posted them.
 pub record LanePart : Type 0 where
   -- the entries that were begun, those of the last frame that are not begun yet, and the writes of the entry begun last
   -- that are left to post
@@ -28,8 +28,9 @@ pub record LanePart : Type 0 where
   pub cleared : ℕ
   pub acked : ℕ
   pub freed : ℕ
-  -- where the receiver stands with entry `got`, how many parts of it were copied, its length and how many entries of its frame
-  -- follow it, as the receiver found them
+  -- where the receiver stands: idle or copying with entry `got`, copied or cleared with the one before. Then the part
+  -- that it copies next, while it copies; and of the entry found last, as found, its length and how many of its frame
+  -- follow it
   pub phase : Phase
   pub part : ℕ
   pub len : ℕ
@@ -38,8 +39,8 @@ pub record LanePart : Type 0 where
   pub gathered : List ℕ
   pub done : ℕ
 
--- One side of a pair: what it reached in the handshake, its scratchpads and doorbells, and its writes in flight. Sets of
--- queues and of doorbells are the bits of a number.
+-- One side of a pair: what it reached in the handshake, its scratchpads and doorbells, and its writes in flight. Sets
+-- of queues and of doorbells are the bits of a number.
 pub record SidePart : Type 0 where
   pub up : Bool
   pub ready : ℕ
@@ -123,8 +124,8 @@ posts_raw pair side label bytes =
     (record (side_of pair side) { flight = (side_of pair side).flight ++ label ∷ []; poked = (side_of pair side).poked ++ bytes ∷ [] })
     else pair
 
--- the entries that a lane's sender has begun or keeps waiting, those that are free for it, and what it reads of head and
--- index word
+-- the entries that a lane's sender has begun or keeps waiting, those that are free for it, and what it reads of head
+-- and index word
 abbrev pub begun_in : LanePart → ℕ
 begun_in lane = length lane.sent + length lane.waiting
 

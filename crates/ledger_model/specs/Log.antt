@@ -232,7 +232,8 @@ landed_pad log pair side i = pad_after pair side i None (in_this_session pair lo
 
 -- Looking
 
--- whether the side's last look on the queue was empty and no doorbell of the queue was taken since, where it was so before
+-- whether the side's last look on the queue was empty and no doorbell of the queue was taken since, where it was so
+-- before
 abbrev pub saw_empty : ℕ → Side → ℕ → Bool → List Answered → Bool
 saw_empty pair side queue now [] = now
 saw_empty pair side queue now (made ∷ log) = saw_empty pair side queue (seen made.step made.answer) log where
@@ -247,7 +248,8 @@ last_look_empty log pair side queue = saw_empty pair side queue false (in_this_s
 
 -- Copying
 
--- the entry that a side found last on a queue: its number and length as the side was answered, and how many copies it made since
+-- the entry that a side found last on a queue: its number and length as the side was answered, and how many copies it
+-- made since
 pub record Looked : Type 0 where
   pub number : ℕ
   pub len : ℕ

@@ -1,5 +1,6 @@
 -- What a step learns of the rings of a pair. On an ordinary pair the ledger says it: the entries that were begun and
--- landed. On a raw pair, where anything may be written past the transport, the bytes in memory say it, whoever wrote them.
+-- landed. On a raw pair, where anything may be written past the transport, the bytes in memory say it, whoever wrote
+-- them.
 use Rattle.std.specs.Prelude.{ℕ, ◌==◌, Bool, true, nat_lt, List, length, if◌then◌else◌}
 use Rattle.step_kinds.specs.Sides.{other_side}
 use Rattle.step_kinds.specs.declared.names.Side.{Side}

@@ -1,5 +1,5 @@
--- Landing and receiving: writes land at the peer in an order that the bridge allows, and a receiver looks for the next entry,
--- copies it in parts, clears its flags and gives it back.
+-- Landing and receiving: writes land at the peer in an order that the bridge allows. A receiver looks for the next
+-- entry, copies it in parts, clears its flags and gives it back.
 use Rattle.std.specs.Prelude.{ℕ, ◌+◌, Bool, true, false, not, Option, Some, None, List, [], ◌++◌, length, map, take, count_by, remove, slice_set, slice_get, nat_lt, if◌then◌else◌}
 use Rattle.step_kinds.specs.Bits.{with_bit, has_bit}
 use Rattle.step_kinds.specs.Sides.{other_side}
@@ -22,7 +22,8 @@ use Rattle.ledger_model.specs.Sending.{posts_through}
 use Rattle.plan_model.specs.Orders.{order_of}
 use Rattle.plan_model.specs.Refusals.{Test, OfJoined, OfClosed, OfPhase, in_look_order}
 
--- What a landed write changes at the peer of the side that posted it. Fields of entries and raw bytes change memory alone.
+-- What a landed write changes at the peer of the side that posted it. Fields of entries and raw bytes change memory
+-- alone.
 abbrev pub lands_on : PairPart → Side → Label → PairPart
 lands_on pair side (Flag queue n) = with_lane pair side queue (record (lane_of pair side queue) { flagged = (lane_of pair side queue).flagged + 1 })
 lands_on pair side (Down queue n) = with_lane pair side queue (record (lane_of pair side queue) { flagged = (lane_of pair side queue).flagged + 1 })
@@ -104,8 +105,8 @@ counts_delivered pair side queue len =
     with_dev (with_tally pair (other_side side) queue session (record tally { delivered = tally.delivered + 1 })) side queue
     (record dev { counters = count_delivered dev.counters len })
 
--- What a copy comes to, with the bytes of the frame that are copied then: the next part of the entry; with the last one the
--- entry is taken; and with the last entry of a frame the whole frame is delivered.
+-- What a copy comes to, with the bytes of the frame that are copied then: the next part of the entry. With the last
+-- part the entry is copied whole, and with the last entry of a frame the whole frame is delivered.
 abbrev pub copy_of : PairPart → Side → ℕ → LanePart → List ℕ → Outcome
 copy_of pair side queue lane gathered =
     if nat_lt (lane.part + 1) (chunks_in lane.len)

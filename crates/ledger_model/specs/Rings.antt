@@ -1,5 +1,5 @@
--- The ring of a lane as the log leaves it: what the landed writes, the checks and the clears of a run put into its slots and its
--- index word. With it the ledger shows a whole lane, of which the law of the ring speaks.
+-- The ring of a lane as the log leaves it: what the landed writes, the checks and the clears of a run put into its
+-- slots and its index word. With it the ledger shows a whole lane, of which the law of the ring speaks.
 use Rattle.std.specs.Prelude.{ℕ, ◌-◌, ◌%◌, ◌==◌, Bool, Option, Some, None, List, [], ◌∷◌, ◌++◌, map, replicate, slice_index_or, slice_set, if◌then◌else◌}
 use Rattle.step_kinds.specs.Sides.{other_side, same_side}
 use Rattle.step_kinds.specs.declared.names.LaneName.{LaneName}

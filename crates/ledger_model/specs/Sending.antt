@@ -31,7 +31,7 @@ refuse_sender pair side queue later = in_begin_order (sender_refuses pair side q
 abbrev pub refuse_long : ℕ → ℕ → Option Answer → Option Answer
 refuse_long len largest later = refuse_if (nat_lt largest len) (TooLong len largest) later
 
--- a frame of the lane has entries or writes left to post
+-- the lane has entries or writes left to post
 abbrev pub is_busy : LanePart → Bool
 is_busy lane = not (is_empty_list lane.todo) || not (is_empty_list lane.waiting)
 
@@ -140,7 +140,7 @@ next_begun queue lane = if is_empty_list lane.todo then with_next queue lane lan
 abbrev pub posts_through : Reading → PairPart → Side → Label → PairPart
 posts_through reading pair side label = if reading.reaches side label then posts pair side label else pair
 
--- the next write of the lane's frame is posted, whatever the link's state
+-- the next write that the lane has left is posted, whatever the link's state
 abbrev pub post_first : Reading → PairPart → Side → ℕ → LanePart → List Label → Outcome
 post_first reading pair side queue lane [] = record { answer = Idle; after = pair }
 post_first reading pair side queue lane (label ∷ rest) =

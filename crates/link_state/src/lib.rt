@@ -1,9 +1,9 @@
 //! The link of a pair: its state, the number of its session, and which sides have enabled it and are clean.
 //!
-//! The calls that enable and disable a link, and the event that tells of its loss, are those of Linux
-//! `include/linux/ntb.h`. Sessions and the clean bit of a side are this project's own: a link that was
-//! lost comes up again only after both sides have forgotten the session, and then in the next session. No call takes
-//! memory, and a refused call changes nothing.
+//! The call that enables a link, and the event that tells of its loss, are those of Linux `include/linux/ntb.h`.
+//! Sessions and the clean bit of a side are this project's own. A link that was lost comes up again only after both
+//! sides have forgotten the session, and then in the next session. No call takes memory, and a refused call changes
+//! nothing.
 #![tactic(auto)]
 
 ghost use Rattle.std.specs.Prelude.{IfErr, IfOk, OnOk, ◌≡◌, ◌≢◌, ◌≤◌};
@@ -47,8 +47,8 @@ pub struct Link {
 }
 
 impl Link {
-    /// The link of a pair before any step: down, with no session yet and both sides clean, or, where `up` holds, up
-    /// in session 1 and enabled by both sides.
+    /// The link of a pair before any step. It is down, with no session yet and enabled by no side, or, where `up`
+    /// holds, up in session 1 and enabled by both sides. Both sides are clean.
     pub fn fresh(up: bool) -> Link
         ensures { result ≡ fresh_link up }
     {
@@ -60,7 +60,7 @@ impl Link {
         }
     }
 
-    /// Where the link stands.
+    /// Whether the link is down, up or closing.
     pub fn state(&self) -> LinkState
         ensures { result ≡ self.now.state }
     {
@@ -75,7 +75,8 @@ impl Link {
         self.session
     }
 
-    /// Whether the side has enabled the link since it was last lost.
+    /// Whether the side has enabled the link. Both sides have where it is up from the start, and neither has after
+    /// [`Link::drop_done`].
     pub fn enabled(&self, side: Side) -> bool
         ensures { result ≡ at_side self.now.enabled side }
     {
@@ -155,7 +156,7 @@ impl Link {
         Ok(())
     }
 
-    /// Whether the side has forgotten the session that was lost.
+    /// Whether the side is clean: no session was dropped yet, or it has forgotten the one that was dropped last.
     pub fn clean(&self, side: Side) -> bool
         ensures { result ≡ at_side self.now.clean side }
     {

@@ -61,7 +61,7 @@ UnequalSizes =
     ≡ Mem (word 3) ∷ Mem (word 7) ∷ landed_answers 0 ++ take 4 (landed_answers 1) ++ received_answers 0 letter ++ received_answers 1 letter
     ++ Landed (Index 0 0) ∷ Mem (word 0) ∷ Landed (Index 0 1) ∷ Mem (word 1) ∷ []
 
--- the largest windows have 4,095 entries
+-- with an mtu of 65,536 the largest windows have 4,095 entries
 abbrev pub LargestWindow : Type 0
 LargestWindow =
     drop 10
@@ -175,7 +175,7 @@ NoRoomForTwoPieces =
     answers pieces_pair (send pieces_pair 0 A 0 (replicate 1008 7) ++ send pieces_pair 0 A 0 (replicate 1008 7))
     ≡ posted_pieces ++ Again 2 3 ∷ replicate 17 Idle
 
--- of two sides that speak 4 and 5, both speak 4
+-- a side of version 4 comes up with a peer whose scratchpads say version 5
 abbrev pub OlderVersionIsSpoken : Type 0
 OlderVersionIsSpoken =
     drop 12

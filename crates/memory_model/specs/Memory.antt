@@ -32,8 +32,8 @@ abbrev pub stored : Option Store → List Store
 stored None = []
 stored (Some store) = store ∷ []
 
--- What a step stores in a side's memory, by its answer, in the pair as it was before: what a landed write brings; after a
--- check that is answered up, fresh rings and index words; after a clear, flags that are zero.
+-- What a step stores in a side's memory, by its answer, in the pair as it was before. A landed write stores what it
+-- brings, a check that is answered up stores fresh rings and index words, and a clear stores flags that are zero.
 abbrev pub stores_by : PairPlan → PairPart → Side → Step → Answer → List Store
 stores_by plan pair side (Land p from place) (Landed label) =
     if same_side side (other_side from)

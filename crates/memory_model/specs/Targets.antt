@@ -19,8 +19,8 @@ entry_labelled pair side (Flag queue n) = entry_in (lane_of pair side queue) n
 entry_labelled pair side (Down queue n) = entry_in (lane_of pair side queue) n
 entry_labelled pair side label = GoesDown
 
--- What a side's write stores at its peer as it lands, `raw` being the bytes of a raw write. A doorbell and a scratchpad store
--- nothing. An index write goes where the writer's own windows put the index word.
+-- What a side's write stores at its peer as it lands, `raw` being the bytes of a raw write. A doorbell and a scratchpad
+-- store nothing. An index write goes where the writer's own windows put the index word.
 abbrev pub store_of : PairPlan → PairPart → Side → List ℕ → Label → Option Store
 store_of plan pair side raw (Index queue n) = Some (store_of_write plan side (index_write plan side queue n))
 store_of plan pair side raw (Raw window offset len) = Some (store_at (peer_address plan side window offset) raw)

@@ -1,5 +1,5 @@
-//! Ethernet frames (IEEE 802.3, without tags and checksum): the address of six bytes that a frame goes to, that of the
-//! device that it comes from, the kind of the payload, and the payload.
+//! Ethernet frames (IEEE 802.3, without tags and checksum). A frame is the address of six bytes that it goes to, that
+//! of the device that it comes from, the kind of the payload, and the payload.
 
 ghost use Rattle.std.specs.Prelude.{IfErr, IfOk, IsErr, drop, length, ◌<◌, ◌↔◌, ◌≡◌, ◌≤◌};
 ghost use Rattle.step_kinds.specs.Limits.{most_frame_bytes};
@@ -31,9 +31,9 @@ pub struct Short {
     pub len: u32,
 }
 
-/// The Ethernet frame with these addresses and this kind, its high byte first, before a payload, which has to have at
-/// most 65,522 bytes: with the 14 bytes before it the frame has at most 65,536. So the largest payload of a device is
-/// 14 bytes below the longest frame of its queue.
+/// The Ethernet frame with these addresses and this kind, its high byte first, before a payload. The payload has to
+/// have at most 65,522 bytes: with the 14 bytes before it the frame has at most 65,536. So the largest payload of a
+/// device is 14 bytes below the longest frame of its queue.
 ///
 /// # Errors
 ///

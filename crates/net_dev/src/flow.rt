@@ -5,7 +5,7 @@ ghost use Rattle.std.specs.Prelude.{false, not, ◌≡◌};
 use std::marker::Model;
 
 /// The flow of a device: whether it is stopped, and the limits at which it stops and goes on, in free entries of its
-/// ring (the transmit queue of `ntb_netdev` stops below one limit and starts again at another). Limits are 0 to 65,535
+/// ring. The transmit queue of `ntb_netdev` stops below one limit and starts again at another. Limits are 0 to 65,535
 /// in a script, and `start` is at least `stop` there; here each number is taken as it is.
 #[derive(Clone, Copy, Debug, PartialEq, Eq)]
 pub struct Flow {

@@ -1,5 +1,6 @@
-//! A network device on one queue of a pair, after the way in which Linux `ntb_netdev` works: Ethernet frames written
-//! and read, and the flow of a device that stops where its ring runs full and goes on where there is room.
+//! A network device on one queue of a pair, after the way in which Linux `ntb_netdev` works. Ethernet frames are
+//! written and read here, and a device's flow is kept: the device stops where its ring runs full, and goes on where
+//! there is room.
 #![tactic(auto)]
 
 mod ethernet;

@@ -1,5 +1,5 @@
--- What a run comes to, by what reading, the reply and writing come to. All of it holds for any command and any relation between
--- bytes and outputs.
+-- What a run comes to, by what reading, the reply and writing come to. All of it holds for any command and any relation
+-- between bytes and outputs.
 use Rattle.std.proofs.Common.{◌≡◌, ◌∙◌, ℕ, ◌+◌, ◌<◌, Bool, true, Option, Some, None, Result, Ok, Err, List, [], IfSome, length, take, drop, replicate, inl, inr, refl, sym, arith}
 use Rattle.std.specs.Prelude.{IsErrOf}
 use Rattle.std.proofs.lemmas.Bool.{true≢false}

@@ -12,7 +12,8 @@ use Rattle.stream_command.specs.Answers.{IsStreamOf, Streamed, nothing_streamed}
 use Rattle.ntb_top.specs.declared.command.Command.{Command}
 use Rattle.ntb_top.specs.declared.command.Command.TheVariants.{Check, Explore, Load, Reads, Replay, Run, Stream, Trace}
 
--- A case for each command: a relation, since several texts of `run` are right. What comes with a text of `run` and of `stream` is said in `Ends`.
+-- A case for each command: a relation, since several texts of `run` are right. What comes with a text of `run` and of
+-- `stream` is said in `Ends`.
 abbrev pub IsReplyOf : Command → List ℕ → Output → Type 0
 IsReplyOf Replay bytes output = IsReplayOf bytes output
 IsReplyOf (Load seed frames) bytes output = IsLoadOf seed frames output

@@ -34,7 +34,7 @@ command_of (word ∷ []) = lone_command word
 command_of (word ∷ seed ∷ frames ∷ []) = if bytes_eq word (codes "load") then load_command (number_below (2 ^ 64) seed) (number_below (2 ^ 32) frames) else None
 command_of words = None
 
--- a command that no thread makes
+-- words that are no command, or a command that no thread makes
 abbrev pub IsPlain : Option Command → Type 0
 IsPlain command = (command ≡ Some Run → ⊥) × (command ≡ Some Stream → ⊥)
 
@@ -43,7 +43,7 @@ abbrev pub IsInRange : Command → Type 0
 IsInRange (Load seed frames) = (1 ≤ frames) × (frames ≤ most_load_frames)
 IsInRange command = Unit {0}
 
--- whether a command reads a script
+-- whether a command reads its source
 abbrev pub command_reads : Command → Bool
 command_reads Replay = true
 command_reads (Load seed frames) = false
@@ -54,7 +54,7 @@ command_reads Trace = true
 command_reads Check = true
 command_reads Explore = true
 
--- whether words are a command that reads a script
+-- whether words are a command that reads
 abbrev pub is_reading : Option Command → Bool
 is_reading None = false
 is_reading (Some command) = command_reads command

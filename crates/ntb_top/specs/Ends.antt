@@ -40,8 +40,8 @@ beside_stream streamed = record { runs = None; streams = streamed.streams; proof
 abbrev pub nothing_beside : Beside
 nothing_beside = record { runs = None; streams = None; proofs = [] }
 
--- The bytes declare a plan, and what was written is the text of a record that is answered, fits the plan, and is shown by the
--- answered proofs.
+-- The bytes declare a plan, and what was written is the text of a record that is answered, fits the plan, and is shown
+-- by the answered proofs.
 pub record IsTrueRun (bytes : List ℕ) (before after : Outside) (beside : Beside) : Type 0 where
   pub plan : Plan
   pub declares : script_of bytes ≡ Ok plan
@@ -52,8 +52,8 @@ pub record IsTrueRun (bytes : List ℕ) (before after : Outside) (beside : Besid
   pub fits : IsFit plan run
   pub shown : IsShown plan run beside.proofs
 
--- The bytes declare a plan, and what was written is the text of a record that is answered: it has the whole traffic of each
--- lane, in order, and the answered proofs make it resumed.
+-- The bytes declare a plan, and what was written is the text of a record that is answered. The record has the whole
+-- traffic of each lane, in order, and the answered proofs make it resumed.
 pub record IsTrueStream (bytes : List ℕ) (before after : Outside) (beside : Beside) : Type 0 where
   pub plan : Plan
   pub declares : script_of bytes ≡ Ok plan

@@ -1,4 +1,5 @@
--- What status 0 means of the commands that run no threads: `Ends` says it of `run` and `stream`, and a check has no such law.
+-- What status 0 means of the commands that run no threads: `Ends` says it of `run` and `stream`, and a check has no
+-- such law.
 use Rattle.std.specs.Prelude.{◌≡◌, ℕ, Some, Ok, List}
 use Rattle.io_edges.specs.Whole.{HoldsAll}
 use Rattle.step_kinds.specs.declared.plan.Plan.{Plan}
@@ -42,8 +43,8 @@ TracesAreTrue =
     (words : List (List ℕ)) (before after : Outside) → command_of words ≡ Some Trace → (run : HasRun words before after 0) →
     (plan : Plan) × (script_of run.bytes ≡ Ok plan) × HoldsAll before.held after.held (trace_text plan) × HasTrueTrace plan
 
--- `explore`: the bytes that were read declare a plan, and the text was written whole of all outcomes of its schedules and of the
--- number of states that they reach
+-- `explore`: the bytes that were read declare a plan, and the text was written whole of all outcomes of its schedules
+-- and of the number of states that they reach
 abbrev pub ExplorationsAreTrue : Type 0
 ExplorationsAreTrue =
     (words : List (List ℕ)) (before after : Outside) → command_of words ≡ Some Explore → (run : HasRun words before after 0) →

@@ -9,7 +9,8 @@ use Rattle.command_reply.specs.declared.status.Status.TheVariants.{Done, OutOfMe
 use Rattle.ntb_top.specs.Answers.{IsAnswerTo}
 use Rattle.ntb_top.specs.Commands.{command_of, reads_script}
 
--- the source and the sink at one moment: what is left and what is held, where they tell it, and how often each has failed
+-- the source and the sink at one moment: what is left and what is held, where they tell it, and how often each has
+-- failed
 pub record Outside : Type 0 where
   pub left : Option (List ℕ)
   pub read_faults : ℕ
@@ -69,7 +70,7 @@ pub record HasAnswered (reading : Bool) (IsAnswer : List ℕ → Output → Type
   -- they are what was taken from the source, never more than one byte past the limit
   pub taken : HasGiven before.left after.left bytes
   pub few : length bytes ≤ most_script_bytes + 1
-  -- a command that reads no script takes nothing
+  -- a command that doesn't read takes nothing
   pub unread : reading ≡ false → (bytes ≡ []) × (after.read_faults ≡ before.read_faults)
   -- one that does reads the source to its end, unless it is too long
   pub whole : reading ≡ true → HasReply status → length bytes ≤ most_script_bytes → IsAtEnd after.left
@@ -78,8 +79,8 @@ pub record HasAnswered (reading : Bool) (IsAnswer : List ℕ → Output → Type
   -- no fault is swallowed: the source's count rose only with status 4, and the sink's only with 5
   pub source_kept : (status ≡ number_of SourceFailed → ⊥) → after.read_faults ≡ before.read_faults
   pub sink_kept : (status ≡ number_of SinkFailed → ⊥) → after.write_faults ≡ before.write_faults
-  -- with status 0 an answer of that status was written whole, and what is true of such an answer is true: of `replay` and `load`
-  -- that the log of the plan that was replayed is in order, and refuses where it should (`IsTrueLog`)
+  -- with status 0 an answer of that status was written whole, and what is true of such an answer is true. For `replay`
+  -- and `load` the log of the plan that was replayed is in order, and refuses where it should (`IsTrueLog`)
   pub headline : status ≡ number_of Done → EndsWhole (IsAnswer bytes) before after status
 
 -- the run of these words

@@ -10,7 +10,7 @@ use step_kinds::limits::MOST_SCRIPT_BYTES;
 /// What a source has for a command.
 #[derive(Drop)]
 pub enum Input {
-    /// All its bytes, at most as many as a script may have; none for a command that reads no script.
+    /// All its bytes, at most as many as a script may have; none for a command that doesn't read.
     Whole(Vec<u8>),
     /// More bytes than a script may have.
     TooLong,
@@ -36,6 +36,8 @@ impl From<AllocError> for Stop {
 }
 
 /// Reads what a command is to read: all that the source has, up to one byte more than a script may have, or nothing.
+/// [`Stop::SourceFailed`] comes only where the source failed, to a command that reads, and else the source's count of
+/// faults stays. [`Stop::OutOfMemory`] comes only when out of memory.
 pub fn read_input<S: Source>(alloc: Global, reads: bool, source: &mut S) -> Result<Input, Stop>
     ensures { HasInput reads (record { left = S.left source.old; faults = S.faults source.old })
         (record { left = S.left source.new; faults = S.faults source.new }) result }

@@ -1,5 +1,5 @@
-//! The top call of ntbsim: it takes the words of a command line, a source and a sink, does all that the program does, and
-//! answers the exit status, with the record and the proofs of a threaded run or of streams.
+//! The top call of ntbsim: it takes the words of a command line, a source and a sink, and does all that the program
+//! does. It answers the exit status, with the record and the proofs of a threaded run or of streams.
 #![tactic(auto)]
 
 mod arguments;

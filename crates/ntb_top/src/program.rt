@@ -25,10 +25,10 @@ use std::alloc::Global;
 use std::sync::Wait;
 use std::thread::Threads;
 
-/// Does all that the program does: reads its input from the source where the words are a command that reads a script, writes
-/// one text to the sink, and answers the exit status. On words that aren't `run` or `stream` it is one call of
-/// [`plain_program`]. On these two each worker passes the gate before each of its turns, and the end has the record
-/// whose text was written, with the proofs of its sessions.
+/// Does all that the program does, and answers the exit status. It reads its input from the source where the words are
+/// a command that reads, and writes one text to the sink. On words that aren't `run` or `stream` it is one
+/// call of [`plain_program`]. On these two each worker passes the gate before each of its turns, and the end has the
+/// record whose text was written, with the proofs of its sessions.
 ///
 /// The gate has to let all workers with numbers below 524,280 pass, before each turn with a number below 2^64.
 ///
@@ -36,7 +36,7 @@ use std::thread::Threads;
 /// |---|---|---|
 /// | 0 | none of the others | what the command writes, as [`Command`] says |
 /// | 2 | the words are no command | `usage` |
-/// | 3 | a line of the script has a fault | `refused line L CAUSE`; of `reads`, whose cause is always `badline`; of `check` with the word and the range |
+/// | 3 | a line of the input has a fault | `refused line L CAUSE`; of `reads`, whose cause is always `badline`; of `check` with the word and the range |
 /// | 4 | the source failed | nothing |
 /// | 5 | the sink failed | a part from the front of the text |
 /// | 6 | out of memory | nothing |

@@ -1,5 +1,5 @@
--- Which transactions may overtake which, after PCI Express Base 4.0, section 2.4: posted writes, and what isn't posted, of
--- kind 2, read requests, and kind 3, completions.
+-- Which transactions may overtake which, after PCI Express Base 4.0, section 2.4: posted writes, and what isn't posted,
+-- of kind 2, read requests, and kind 3, completions.
 use Rattle.std.specs.Prelude.{ℕ, Bool, ◌==◌, ◌&&◌, ◌||◌, not, if◌then◌else◌}
 use Rattle.order_rules.specs.Order.{may_pass, relaxed, strict}
 

@@ -1,9 +1,9 @@
 //! Which transactions may overtake which, as a table that is looked up in place of being worked out at each landing.
 //!
-//! PCI Express Base 4.0, section 2.4, gives its ordering rules as a table: a row for the kind of the later
-//! transaction, a column for the kind of the earlier one, and an entry that says whether the later may pass.
-//! One table here is over the kinds of posted writes alone, relaxed and strict; the other has read requests and
-//! completions too. Between transactions of different traffic classes no order holds.
+//! PCI Express Base 4.0, section 2.4, gives its ordering rules as a table. It has a row for the kind of the later
+//! transaction and a column for the kind of the earlier one, and an entry says whether the later may pass. One table
+//! here is over the kinds of posted writes alone, relaxed and strict; the other has read requests and completions too.
+//! Between transactions of different traffic classes no order holds.
 #![tactic(auto)]
 
 ghost use Rattle.std.specs.Prelude.{◌≡◌, ℕ, ◌<◌, ◌==◌, ◌||◌, not};
@@ -28,8 +28,8 @@ pub const READ_REQUEST: usize = 2;
 /// The kind of a completion, which brings what a read request asked for.
 pub const COMPLETION: usize = 3;
 
-/// A table of order over `K` kinds of transactions: `K` rows for the kind of the later one, each with `K` columns
-/// for the kind of the earlier one.
+/// A table of order over `K` kinds of transactions, within one traffic class. It has `K` rows for the kind of the later
+/// one, each with `K` columns for the kind of the earlier one.
 ///
 /// A contract sees it as the list of its rows, each a list of answers.
 #[derive(Debug, Drop)]
@@ -48,9 +48,9 @@ impl<const K: usize> OrderTable<K> {
         self.rows[later][earlier]
     }
 
-    /// Whether a later transaction of one kind and traffic class may pass an earlier one of another: where the table
-    /// says so of the kinds, or where the classes differ, since between different traffic classes no order holds
-    /// (PCI Express Base 4.0, section 2.4). Both kinds are below `K`.
+    /// Whether a later transaction of one kind and traffic class may pass an earlier one of another. It may exactly
+    /// where the table says so of the kinds, or where the classes differ, since between different traffic classes no
+    /// order holds (PCI Express Base 4.0, section 2.4). Both kinds are below `K`.
     pub fn passes(&self, later: usize, later_class: u32, earlier: usize, earlier_class: u32) -> bool
         requires later_in_table { later < K }
         requires earlier_in_table { earlier < K }
@@ -80,8 +80,8 @@ macro_rules! answer {
     (waits) => { false };
 }
 
-/// The table of posted writes, after PCI Express Base 4.0, section 2.4, over the kinds [`RELAXED`] and [`STRICT`]:
-/// a relaxed write may pass each other write, a strict one passes none.
+/// The table of posted writes, after PCI Express Base 4.0, section 2.4, over the kinds [`RELAXED`] and [`STRICT`]. A
+/// relaxed write may pass each other write, and a strict one passes none of its own traffic class.
 pub fn posted_table() -> OrderTable<2>
     ensures { (later earlier : ℕ) → later < 2 → earlier < 2 → answer_at result later earlier ≡ may_pass later earlier }
 {

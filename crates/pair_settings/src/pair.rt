@@ -131,8 +131,8 @@ fn has_room_for_header(pair: &PairPlan) -> bool
     pair.a.version != 5 && pair.b.version != 5 || pair.mtu >= 20
 }
 
-/// Whether the numbers of a pair go together. A side has version 4 or more, and where one has version 5 the mtu is at
-/// least 20. The sides of a pair that starts up agree, and those of a raw pair fit each other's memory.
+/// Whether the numbers of a pair go together. One side at least has version 4 or more, and where one has version 5 the
+/// mtu is at least 20. The sides of a pair that starts up agree, and those of a raw pair fit each other's memory.
 pub fn goes_together(pair: &PairPlan) -> bool
     ensures { result ≡ rules.goes_together pair.now }
 {

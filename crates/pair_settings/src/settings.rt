@@ -139,7 +139,8 @@ impl Setting {
         }
     }
 
-    /// Whether the option's number, taken by itself, is one that it may have.
+    /// Whether the option's number, taken by itself, is one that it may have. It lies in [`Setting::range`], and a size
+    /// or a cap is a multiple of 4,096. An option without a number is always in range.
     pub fn is_in_range(&self) -> bool
         ensures { result ≡ rules.in_range self.now }
     {

@@ -1,4 +1,5 @@
--- What the bridges and devices of a plan permit depends on its pairs and devices alone, and not on its switches, steps and traffic.
+-- What the bridges and devices of a plan permit depends on its pairs and devices alone, and not on its switches, steps
+-- and traffic.
 use Rattle.std.proofs.Common.{ℕ, List, inl, inr}
 use Rattle.std.proofs.lemmas.List.Elements.{All-weaker}
 use Rattle.step_kinds.specs.declared.names.Side.{Side}

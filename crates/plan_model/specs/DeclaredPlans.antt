@@ -102,8 +102,8 @@ pub record IsPadOf (pair : PairPlan) (i : ℕ) : Type 0 where
   pub among : i < 16
   pub free : (12 ≤ i) ⊎ (pair.raw ≡ true)
 
--- bytes past the transport: one to 128 of them on a raw pair, in a window that both sides have, within what the peer's memory
--- gives
+-- bytes past the transport: one to 128 of them on a raw pair, in a window that both sides have, within the window's
+-- size and what the peer's memory gives
 pub record IsPoke (pair : PairPlan) (side : Side) (window offset : ℕ) (bytes : List ℕ) : Type 0 where
   pub raw : pair.raw ≡ true
   pub windows : (window < pair.a.windows) × (window < pair.b.windows)
@@ -111,7 +111,7 @@ pub record IsPoke (pair : PairPlan) (side : Side) (window offset : ℕ) (bytes :
   pub few : length bytes ≤ most_poke_bytes
   pub within : offset + length bytes ≤ min (side_plan pair side).size (side_plan pair (other_side side)).cap
 
--- up to 64 bytes of a side's memory, which has its windows one after the other
+-- one to 64 bytes of a side's memory, which has its windows one after the other
 pub record IsShown (own : SidePlan) (at len : ℕ) : Type 0 where
   pub some : 0 < len
   pub few : len ≤ 64

@@ -1,5 +1,5 @@
--- A network device on one queue, after the way in which `ntb_netdev` works: Ethernet frames in a ring, a queue that is
--- stopped where the ring runs full and started again where there is room.
+-- A network device on one queue, after the way in which `ntb_netdev` works. It has Ethernet frames in a ring, and a
+-- queue that is stopped where the ring runs full and started again where there is room.
 use Rattle.std.specs.Prelude.{ℕ, ◌+◌, Bool, ◌&&◌, ◌||◌, nat_lt, if◌then◌else◌}
 use Rattle.step_kinds.specs.declared.plan.Counters.{Counters}
 use Rattle.plan_model.specs.Ethernet.{ethernet_header}

@@ -61,7 +61,8 @@ Pieces = (pieces_in 1007 1 ≡ 1) × (pieces_in 1007 1007 ≡ 1) × (pieces_in 1
 abbrev pub CutInPieces : Type 0
 CutInPieces = (pieces_of 2 (1 ∷ 2 ∷ 3 ∷ []) ≡ Carries (1 ∷ 2 ∷ []) 1 ∷ Carries (3 ∷ []) 0 ∷ []) × (pieces_of 2 (1 ∷ 2 ∷ []) ≡ Carries (1 ∷ 2 ∷ []) 0 ∷ [])
 
--- as many posts as writes: chunks and four more, for each piece; a frame that is too long for version 4 counts as one entry
+-- as many posts as writes: chunks and four more, for each piece; a frame that is too long for version 4 counts as one
+-- entry
 abbrev pub Posts : Type 0
 Posts =
     (posts_in small_pair A 0 1 ≡ 5) × (posts_in small_pair A 0 129 ≡ 6) × (posts_in small_pair A 0 1012 ≡ 12) × (posts_in pieces_pair A 0 1008 ≡ 17)

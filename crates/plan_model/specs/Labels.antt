@@ -36,7 +36,8 @@ abbrev pub index_of : ℕ → Label → Option ℕ
 index_of q (Index p n) = if p == q then Some n else None
 index_of q label = None
 
--- the writes of a queue's lane among those in flight from its sender, and its index writes among those from its receiver
+-- the writes of a queue's lane among those in flight from its sender, and its index writes among those from its
+-- receiver
 abbrev pub writes_among : ℕ → List Label → List Write
 writes_among q labels = filter_map (write_of q) labels
 

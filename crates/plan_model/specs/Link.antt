@@ -1,5 +1,5 @@
 -- The link of a pair and its sessions. Linux `include/linux/ntb.h` has the calls that enable and disable a link and the
--- event that tells of its loss; sessions, and the clean bit of a side, are this project's own.
+-- event that tells of its loss. Sessions, and the clean bit of a side, are this project's own.
 use Rattle.std.specs.Prelude.{ℕ, ◌+◌, ◌==◌, Bool, true, false, not, ◌&&◌, Option, Some, None}
 use Rattle.step_kinds.specs.declared.names.Side.{Side}
 use Rattle.plan_model.specs.Both.{Both, at_side, with_side, both_of}

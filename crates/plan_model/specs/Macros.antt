@@ -1,4 +1,5 @@
--- Macros: lists of steps that a script writes as one line. Each of their steps is made and answered, also after a refusal.
+-- Macros: lists of steps that a script writes as one line. Each of their steps is made and answered, also after a
+-- refusal.
 use Rattle.std.specs.Prelude.{ℕ, ◌+◌, ◌-◌, ◌*◌, ◌==◌, min, List, [], ◌∷◌, ◌++◌, length, map, sum, replicate, if◌then◌else◌}
 use Rattle.step_kinds.specs.declared.names.Side.{Side}
 use Rattle.step_kinds.specs.declared.plan.PairPlan.{PairPlan}
@@ -30,7 +31,7 @@ xmit plan pair side queue dev dst kind payload =
 abbrev pub land_all : ℕ → Side → ℕ → List Step
 land_all pair side count = replicate count (Land pair side 0)
 
--- a frame is looked for, copied in so many parts, cleared and given back
+-- an entry is looked for, copied in so many parts, cleared and given back
 abbrev pub receive : ℕ → Side → ℕ → ℕ → List Step
 receive pair side queue copies = Look pair side queue ∷ (replicate copies (Copy pair side queue) ++ Clear pair side queue ∷ Ack pair side queue ∷ [])
 

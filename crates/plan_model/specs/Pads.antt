@@ -1,5 +1,5 @@
--- The scratchpads of the handshake, as `ntb_transport` uses them: which number stands in which, what a side offers in its
--- peer's, and what a side that is up has in its own.
+-- The scratchpads of the handshake, as `ntb_transport` uses them. The definitions say which number stands in which,
+-- what a side offers in its peer's, and what a side that is up has in its own.
 use Rattle.std.specs.Prelude.{ℕ, ◌+◌, ◌-◌, ◌*◌, ◌/◌, ◌%◌, ◌^◌, ◌==◌, ◌&&◌, ◌||◌, Bool, not, nat_lt, Option, List, [], ◌∷◌, ◌++◌, find, replicate, slice_index}
 use Rattle.std.specs.List.{flat_map}
 use Rattle.step_kinds.specs.Bits.{all_below}

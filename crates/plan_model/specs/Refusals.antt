@@ -1,5 +1,5 @@
--- The order in which a step is refused: each order stands here once. The ledger, the calls on bytes and the fabric say for each
--- test what they see and what they answer; the first test that refuses decides.
+-- The order in which a step is refused: each order stands here once. The ledger, the calls on bytes and the fabric say
+-- for each test what they see and what they answer; the first test that refuses decides.
 
 -- what a step tests before it is made
 pub data Test : Type 0 where
@@ -7,7 +7,7 @@ pub data Test : Type 0 where
   OfLink : Test
   -- that a number is left to offer, or that the peer's offer has come
   OfOffer : Test
-  -- that the side is up, by a check
+  -- that the side is up, by a check; of a check, that it isn't up yet
   OfCheck : Test
   -- that both speak a version
   OfVersion : Test
@@ -17,11 +17,11 @@ pub data Test : Type 0 where
   OfWindows : Test
   -- that each window of the peer lies in the own memory
   OfSizes : Test
-  -- that the queue is ready on the side
+  -- that the queue is ready on the side; of a ready, that it isn't yet
   OfReady : Test
   -- that the queue is ready on the peer's side
   OfPeer : Test
-  -- that the queue is joined on the side
+  -- that the queue is joined on the side; of a join, that it isn't yet
   OfJoined : Test
   -- that the queue isn't closed on the side
   OfClosed : Test

@@ -36,7 +36,8 @@ pub record Sizes : Type 0 where
   pub largest : ℕ
   pub most : ℕ
 
--- a frame is one entry on version 4; on version 5 it may take all the entries that a ring has free at most
+-- a frame is one entry on version 4; on version 5 it may take all the entries that a ring has free at most, and has
+-- 65,536 bytes at most
 abbrev pub most_bytes : PairPlan → ℕ → ℕ → ℕ
 most_bytes plan entries largest = if agreed_version plan == 5 then min most_frame_bytes ((entries - 1) * largest) else largest
 

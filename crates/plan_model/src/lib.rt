@@ -1,5 +1,6 @@
-//! What a plan says: which pairs and devices a script can declare and which steps it may make, the numbers of each
-//! side's rings by version, the order of each posted write, macros as lists of steps, and Ethernet frames.
+//! What a plan says: which pairs and devices a script can declare and which steps it may make. Here are also the
+//! numbers of each side's rings by version, the order of each posted write, macros as lists of steps, and Ethernet
+//! frames.
 //!
 //! It has definitions and a few laws of them, over lists and numbers. It knows no ledger, no memory and no log.
 #![tactic(auto)]
@@ -8,8 +9,7 @@ pub mod examples;
 pub mod laws;
 
 /// Where the link of a pair stands. That a link is enabled by both sides and may be lost is Linux
-/// `include/linux/ntb.h`; the state between a loss and the drop of what was in flight is this project's
-/// own.
+/// `include/linux/ntb.h`. The state between a loss and the drop of what was in flight is this project's own.
 #[derive(Clone, Copy, Debug, PartialEq, Eq)]
 pub enum LinkState {
     /// Nothing is in flight, and a write that is posted is lost.

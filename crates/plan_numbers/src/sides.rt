@@ -38,7 +38,7 @@ pub fn header_bytes(plan: &PairPlan) -> u32
     if speaks_five(plan) { 16 } else { 12 }
 }
 
-/// The traffic classes of the writes that a side posts, by queue.
+/// The traffic classes of the writes that a side of a declared pair posts, by queue. Each is below 8.
 pub fn classes_of(plan: &PairPlan, side: Side) -> &[u32; 16]
     requires { IsPair plan.now }
     ensures value { result.now ≡ plan_classes plan.now side }
@@ -50,7 +50,8 @@ pub fn classes_of(plan: &PairPlan, side: Side) -> &[u32; 16]
     }
 }
 
-/// The traffic class of a write, where each queue of its side has one: that of its queue, and 0 where it has none.
+/// The traffic class of a write, by those of its side's queues, each below 8: that of its queue. A write of no queue
+/// has class 0.
 pub fn class_among(classes: &[u32; 16], label: Label) -> u32
     requires { AreClasses classes.now }
     ensures value { result ≡ order_class classes.now label }
@@ -69,7 +70,7 @@ pub fn class_among(classes: &[u32; 16], label: Label) -> u32
 }
 
 /// How bridges order a write: on a strict pair each write is strict; elsewhere the chunks, length and version of an
-/// entry and raw bytes are relaxed.
+/// entry and raw bytes are relaxed. All other writes are strict on every pair.
 pub fn kind_of(is_strict: bool, label: Label) -> usize
     ensures value { result ≡ order_kind is_strict label }
     ensures small { result < 2 }
@@ -98,7 +99,7 @@ pub fn copy_of(plan: &PairPlan) -> PairPlan
     }
 }
 
-/// The bytes of a side's memory: its windows, each as large as the memory gives them.
+/// The bytes of the memory of a side of a declared pair: its windows, each as large as the memory gives them.
 pub fn memory_bytes(plan: &PairPlan, side: Side) -> u64
     requires { IsPair plan.now }
     ensures { result ≡ memory_size plan.now side }
@@ -107,7 +108,8 @@ pub fn memory_bytes(plan: &PairPlan, side: Side) -> u64
     u64::from(own.windows) * own.cap
 }
 
-/// The address of a place in one of the windows of a side's own memory, which follow one another.
+/// The address of a place in one of the windows of a side's own memory, which follow one another. The pair has to be a
+/// declared one, the window one of the side's, and the offset at most the side's `cap`.
 pub fn own_address(plan: &PairPlan, side: Side, window: u32, offset: u64) -> u64
     requires declared { IsPair plan.now }
     requires among { window < (side_plan_of plan.now side).windows }

@@ -2,7 +2,8 @@
 use Rattle.std.specs.Prelude.{◌≡◌, ℕ, ◌≤◌, suc, List, [], length, drop}
 use Rattle.posted_queue.specs.Rows.{PartState, writes_in, room_in}
 
--- the last part in use is of the row or the row is empty, no write stands after it, and the room is there from it on
+-- the number of the last part in use is at most the row's length, no write stands after it, and the room is there from
+-- it on
 pub record IsLevel {W : Type 0} (row : List (PartState W)) (last : ℕ) (room : ℕ) : Type 0 where
   pub in_row : last ≤ length row
   pub behind : writes_in (drop (suc last) row) ≡ []

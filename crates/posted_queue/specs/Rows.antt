@@ -4,11 +4,12 @@ use Rattle.std.specs.List.{list_any, flat_map}
 use Rattle.order_rules.specs.Order.{Order}
 use Rattle.posted_queue.specs.declared.row.Spot.{Spot}
 
--- a part of a queue: its writes, how many more can be pushed with no further memory, and how many more it can take in
--- all as it stands, with further memory where need be
+-- a part of a queue
 pub record PartState (W : Type 0) : Type 0 where
   pub writes : List W
+  -- how many more can be pushed with no further memory
   pub spare : ℕ
+  -- how many more it can take in all as it stands, with further memory where need be
   pub left : ℕ
 
 -- a part where none stands
@@ -54,7 +55,7 @@ pub record IsSpot {W : Type 0} (row : List (PartState W)) (place : ℕ) (spot : 
   pub place_there : spot.place < length (part_at row spot.part).writes
   pub adds_up : place ≡ length (writes_in (take spot.part row)) + spot.place
 
--- a row keeps its writes and what it can take, from each part on, and its room grows in each stretch of parts
+-- a row keeps its writes and what it can take, from each part on; no stretch of parts has less room, and none is gone
 pub record KeepsWrites {W : Type 0} (most : ℕ) (old new : List (PartState W)) : Type 0 where
   pub writes : (number : ℕ) → writes_in (drop number new) ≡ writes_in (drop number old)
   pub room : (from to : ℕ) → room_in (drop from (take to old)) ≤ room_in (drop from (take to new))

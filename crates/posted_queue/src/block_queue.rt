@@ -97,7 +97,7 @@ impl<W: Ordered> BlockQueue<W> {
     }
 
     /// Lands the write at this place in flight, counted from 0 for the one that was posted first. It is taken out and
-    /// returned if it may pass each write before it, as one at the front always may: a relaxed write may, and a strict
+    /// returned if it may pass each write before it, as one at the front always may. A relaxed write may, and a strict
     /// one may where no write before it has its traffic class (PCI Express Base 4.0, section 2.4).
     ///
     /// [`LandAnswer::Blocked`] comes where it may not, and [`LandAnswer::Nothing`] where no more than `place` writes

@@ -1,4 +1,5 @@
-//! The blocks of a queue: one at its front, and levels of them after it.
+//! The blocks of a queue: one at its front, and levels of them after it. A class that a write waits for is below 8, and
+//! fewer than 2^64 writes are ever in them.
 
 ghost use Rattle.std.specs.Prelude.{◌≡◌, [], ◌∷◌, ◌++◌, ◌+◌, ◌<◌, ◌≤◌, ◌^◌, length, take, remove, slice_get, min, IsTrue, ◌↔◌, OnOk, IfNone, IfSome, OnSome, is_none, option_copied};
 ghost use Rattle.std.specs.Option.{ForSome};

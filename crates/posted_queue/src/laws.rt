@@ -18,9 +18,9 @@ pub fn one_class_lands_by_kind()
         → may_land orders place ≡ lands_by_kind (map (λ order. order.kind) orders) place }
 {}
 
-/// A write that may land among all those in flight may land among some of them, as among those of its own lane:
-/// where others are left out, it still may land at the place that it then has, and what stays in flight is the same
-/// whether they are left out before or after.
+/// A write that may land among all those in flight may land among some of them, as among those of its own lane. Where
+/// others are left out, it still may land at the place that it then has. What stays in flight is the same, whether they
+/// are left out before it lands or after.
 pub fn lands_among_kept<W: Ordered>()
     ensures { (kept : W → Bool) (before after : List W) (write : W) → IsTrue (kept write)
         → IsTrue (may_land (map W.order (before ++ write ∷ after)) (length before))

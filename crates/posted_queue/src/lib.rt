@@ -1,7 +1,7 @@
 //! The posted writes of one direction of a bridge that are in flight: which of them may land, and what then stays.
 //!
-//! A posted write gets no answer, so a bridge may let some of them overtake others. Which, says PCI Express Base 4.0,
-//! section 2.4: a write with relaxed ordering may pass each earlier write, a strict one passes none of its own traffic
+//! A posted write gets no answer, so a bridge may let some of them overtake others. PCI Express Base 4.0, section 2.4,
+//! says which. A write with relaxed ordering may pass each earlier write, a strict one passes none of its own traffic
 //! class, and between different traffic classes no order holds.
 //!
 //! Room for a write is promised before it is posted, so that posting, landing and discarding take no memory.
@@ -46,7 +46,7 @@ pub trait Ordered {
 pub enum LandAnswer<W> {
     /// This write landed, and is no longer in flight.
     Landed(W),
-    /// The write may not pass those before it, and stays where it is.
+    /// The write may not pass one of those before it, and stays where it is.
     Blocked,
     /// No write is at that place.
     Nothing,
@@ -144,7 +144,7 @@ impl<W: Ordered> Queue<W> {
     }
 
     /// Lands the write at this place in flight, counted from 0 for the one that was posted first. It is taken out and
-    /// returned if it may pass each write before it, as one at the front always may: a relaxed write may, and a strict
+    /// returned if it may pass each write before it, as one at the front always may. A relaxed write may, and a strict
     /// one may where no write before it has its traffic class (PCI Express Base 4.0, section 2.4).
     ///
     /// [`LandAnswer::Blocked`] comes where it may not, and [`LandAnswer::Nothing`] where no more than `place` writes

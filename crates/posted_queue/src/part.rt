@@ -1,4 +1,5 @@
-//! What a queue is made of: writes that stand in a row, and room after them for more.
+//! What a queue is made of: writes that stand in a row, and room after them for more. A class that a write waits for is
+//! below 8, and fewer than 2^64 writes are ever in a part.
 
 ghost use Rattle.std.specs.Prelude.{◌≡◌, ℕ, [], ◌∷◌, ◌++◌, ◌+◌, ◌<◌, ◌≤◌, ◌^◌, length, take, remove, slice_get, min, OnOk, IfNone, IfSome, OnSome, is_none, option_copied};
 ghost use Rattle.std.specs.Option.{ForSome};

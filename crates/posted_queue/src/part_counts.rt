@@ -1,4 +1,5 @@
-//! A part of a queue that knows how many writes it has, in all and of each class.
+//! A part of a queue that knows how many writes it has, in all and of each class. A class that a write waits for is
+//! below 8, and fewer than 2^64 writes are ever in a part.
 
 ghost use Rattle.std.specs.Prelude.{◌≡◌, [], ◌∷◌, ◌++◌, ◌+◌, ◌<◌, ◌≤◌, ◌^◌, length, take, remove, slice_get, min, OnOk, IfNone, IfSome, OnSome, is_none, option_copied};
 ghost use Rattle.std.specs.Option.{ForSome};

@@ -1,4 +1,5 @@
-//! A row of counted parts: those in use, and after them emptied ones that are kept for later.
+//! A row of counted parts: those in use, and after them emptied ones that are kept for later. A class that a write
+//! waits for is below 8, and fewer than 2^64 writes are ever in a row.
 
 ghost use Rattle.std.specs.Prelude.{◌≡◌, ◌+◌, ◌-◌, ◌<◌, ◌≤◌, ◌^◌, ◌⊎◌, suc, true, false, [], ◌∷◌, ◌++◌, length, min, take, drop, remove, slice_get, slice_index_or, IfNone, IfSome, OnSome, MatchOption, is_none, vec_len, vec_capacity, OnOk, IfOk};
 ghost use Rattle.std.specs.Option.{ForSome};
@@ -49,7 +50,7 @@ pub fn find_spot<W: Ordered, P: Part<W>>(
     None
 }
 
-/// The first part that has a write.
+/// The first part that has a write, of a row that has one.
 #[inline]
 pub fn first_with_write<W: Ordered, P: Part<W>>(row: &[Counted<W, P>]) -> usize
     requires { 0 < length (writes_in row.now) }
@@ -62,7 +63,7 @@ pub fn first_with_write<W: Ordered, P: Part<W>>(row: &[Counted<W, P>]) -> usize
     index
 }
 
-/// The first part from this one on that has room.
+/// The first part from this one on that has room, where some of these has.
 #[inline]
 pub fn first_with_room<W: Ordered, P: Part<W>>(row: &[Counted<W, P>], from: usize) -> usize
     requires { 0 < room_in (drop from row.now) }
@@ -89,7 +90,7 @@ pub fn room_from<W: Ordered, P: Part<W>>(row: &[Counted<W, P>], from: usize) -> 
     room
 }
 
-/// Puts a write after those of a part, where the parts after that have none.
+/// Puts a write after those of a part that has room, where the parts after that have no write.
 #[inline]
 pub fn push_at<W: Ordered, P: Part<W>>(row: &mut Vec<Counted<W, P>>, number: usize, write: W)
     requires there { number < length row.old.items }
@@ -150,8 +151,8 @@ pub fn take_from<W: Ordered, P: Part<W>>(
     })
 }
 
-/// Makes room for `more` writes in the parts from this one on, by parts that are added where need be, or for as many
-/// as the row can take there where they are fewer. The only error is running out of memory.
+/// Makes room for `more` writes in the parts from this one on, or for as many as the row can take there where they are
+/// fewer. Parts are added where need be. The only error is running out of memory.
 pub fn reserve_from<W: Ordered, P: Part<W>>(
     row: &mut Vec<Counted<W, P>>,
     from: usize,

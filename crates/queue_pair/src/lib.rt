@@ -1,6 +1,7 @@
-//! A queue pair of one side of a pair (Linux `Documentation/driver-api/ntb.rst`, `ntb_transport`): a port whose calls are
-//! refused where the link is down, the queue isn't joined, or it is closed. A queue is closed on a side that sends a
-//! link-down entry or finds one, until its next clean; posts, copies, clears and acks go on.
+//! A queue pair of one side of a pair (Linux `Documentation/driver-api/ntb.rst`, `ntb_transport`): a port with refusals
+//! of its own. A begin and a going down are refused where the link isn't up, the queue isn't joined, or it is closed. A
+//! look is refused in the last two cases. A queue is closed on a side that sends a link-down entry or finds one, until
+//! its next clean; posts, copies, clears and acks go on.
 #![tactic(auto)]
 
 pub mod laws;
@@ -23,7 +24,8 @@ pub enum BeginAnswer {
     TooLong { len: u32, max: u32 },
     /// The frame before has writes left to post.
     Busy,
-    /// The ring has fewer entries free than are needed: `head` is the slot of the next entry, and `tail` the index word.
+    /// The ring has fewer entries free than are needed: `head` is the slot of the next entry, and `tail` the index
+    /// word.
     NoRoom { head: u32, tail: u32 },
 }
 
@@ -52,8 +54,8 @@ pub enum LookAnswer {
         seen: u32,
         own: u32,
     },
-    /// The entry has more bytes than an entry may have, or makes its frame longer than a frame may be: `len` bytes, where
-    /// `max` is the most.
+    /// The entry has more bytes than an entry may have, or makes its frame longer than a frame may be: `len` bytes,
+    /// where `max` is the most.
     Long {
         len: u32,
         max: u32,

@@ -19,9 +19,9 @@ use std::alloc::{AllocError, Global};
 use std::marker::Model;
 use step_kinds::{Frame, Label, LaneCopy, PairPlan, Side};
 
-/// One queue pair of one side: its port, and whether the queue is closed on this side. Contracts see both. Every call that
-/// takes a pair has the conditions of the port's call: the pair is one of the queue's plan, and what the port was promised is
-/// there.
+/// One queue pair of one side: its port, and whether the queue is closed on this side. Contracts see both. Every call
+/// that takes a pair has the conditions of the port's call: the pair is one of the queue's plan, and what the port was
+/// promised is there. The sides have to fit each other, as [`Port`] says, only where the queue is joined on this side.
 #[derive(Drop)]
 pub struct QueuePair {
     port: Port,
@@ -36,7 +36,8 @@ impl QueuePair {
     ghost use Rattle.queue_pair.specs.Queue.{fresh_queue, with_port};
     ghost use Rattle.queue_pair.specs.Same.{IsSameQueue};
 
-    /// The queue pair of one of a side's queues, open, with nothing sent and nothing received.
+    /// The queue pair of one of a side's queues, open, with nothing sent and nothing received. The plan has to be one
+    /// that a script can declare.
     ///
     /// # Errors
     ///
@@ -59,13 +60,13 @@ impl QueuePair {
 
     /// Begins a frame, of one byte at least, as [`Port::begin`] does.
     ///
-    /// [`BeginAnswer::LinkDown`] comes where the link isn't up, then [`BeginAnswer::NotReady`] where the queue isn't joined
-    /// on this side, then [`BeginAnswer::Closed`] where it is closed here, then the refusals of the port. A refusal changes
-    /// nothing and drops the frame.
+    /// [`BeginAnswer::LinkDown`] comes where the link isn't up, then [`BeginAnswer::NotReady`] where the queue isn't
+    /// joined on this side, then [`BeginAnswer::Closed`] where it is closed here, then the refusals of the port. A
+    /// refusal changes nothing and drops the frame.
     ///
     /// # Errors
     ///
-    /// [`AllocError`] from out of memory alone, where the frame is not refused, as [`Port::begin`].
+    /// [`AllocError`] as from [`Port::begin`], where the frame is not refused.
     pub fn begin(&mut self, pair: &mut Pair, frame: Frame) -> Result<BeginAnswer, AllocError>
         requires some { 0 < length frame }
         requires plan { pair.old.plan ≡ self.old.port.plan }
@@ -85,12 +86,12 @@ impl QueuePair {
         Ok(answer_of_begun(begun))
     }
 
-    /// Begins a frame to which [`QueuePair::begin_answer`] answers [`BeginAnswer::Ok`], as [`QueuePair::begin`] does, and
-    /// answers its number. Nothing is tested again.
+    /// Begins a frame to which [`QueuePair::begin_answer`] answers [`BeginAnswer::Ok`], as [`QueuePair::begin`] does,
+    /// and answers its number. Nothing is tested again.
     ///
     /// # Errors
     ///
-    /// [`AllocError`] from out of memory alone, as [`Port::begin_unrefused`].
+    /// [`AllocError`] as from [`Port::begin_unrefused`].
     pub fn begin_unrefused(&mut self, pair: &mut Pair, frame: Frame) -> Result<u64, AllocError>
         requires some { 0 < length frame }
         requires plan { pair.old.plan ≡ self.old.port.plan }
@@ -111,7 +112,7 @@ impl QueuePair {
     ///
     /// # Errors
     ///
-    /// [`AllocError`] from out of memory alone, where the entry is not refused, as [`Port::down`].
+    /// [`AllocError`] as from [`Port::down`], where the entry is not refused.
     pub fn qpdown(&mut self, pair: &mut Pair) -> Result<BeginAnswer, AllocError>
         requires plan { pair.old.plan ≡ self.old.port.plan }
         requires fits { is_joined self.old pair.old ≡ true → FitsRings self.old.port.plan }
@@ -133,8 +134,8 @@ impl QueuePair {
         Ok(answer_of_begun(begun))
     }
 
-    /// Posts the next write that is left, as [`Port::post`], whatever the link's state is and whether or not the queue is
-    /// closed. It takes no memory.
+    /// Posts the next write that is left, as [`Port::post`], whatever the link's state is and whether or not the queue
+    /// is closed. It takes no memory.
     pub fn post(&mut self, pair: &mut Pair) -> Option<Label>
         requires plan { pair.old.plan ≡ self.old.port.plan }
         requires room { HasRoomIn self.old.port pair.old }
@@ -148,13 +149,13 @@ impl QueuePair {
         self.port.post(pair)
     }
 
-    /// Looks for the next entry, as [`Port::look`] does. [`LookAnswer::NotReady`] comes where the queue isn't joined on this
-    /// side, then [`LookAnswer::Closed`] where it is closed here; where a link-down entry stands there, the queue is closed on
-    /// this side. It doesn't depend on the link's state.
+    /// Looks for the next entry, as [`Port::look`] does. [`LookAnswer::NotReady`] comes where the queue isn't joined on
+    /// this side, then [`LookAnswer::Closed`] where it is closed here; where a link-down entry stands there, the queue
+    /// is closed on this side. It doesn't depend on the link's state.
     ///
     /// # Errors
     ///
-    /// [`AllocError`] from out of memory alone, where an entry was found, as [`Port::look`].
+    /// [`AllocError`] as from [`Port::look`], where an entry was found.
     pub fn look(&mut self, pair: &mut Pair) -> Result<LookAnswer, AllocError>
         requires plan { pair.old.plan ≡ self.old.port.plan }
         requires fits { is_joined self.old pair.old ≡ true → FitsRings self.old.port.plan }
@@ -185,7 +186,7 @@ impl QueuePair {
     ///
     /// # Errors
     ///
-    /// [`AllocError`] from out of memory alone, as [`Port::find`].
+    /// [`AllocError`] as from [`Port::find`].
     pub fn find(&mut self, pair: &mut Pair, len: u32) -> Result<(), AllocError>
         requires plan { pair.old.plan ≡ self.old.port.plan }
         requires fits { is_joined self.old pair.old ≡ true → FitsRings self.old.port.plan }
@@ -236,8 +237,9 @@ impl QueuePair {
         self.port.ack(pair)
     }
 
-    /// Whether two queue pairs of one queue are in the same state, so that no later call tells them apart: whether they are
-    /// closed, and their ports, as [`Port::is_same`]. Both have to be of one plan, side and queue. It takes no memory.
+    /// Whether two queue pairs of one queue are in the same state, so that no later call tells them apart: whether they
+    /// are closed, and their ports, as [`Port::is_same`]. Both have to be of one plan, side and queue. It takes no
+    /// memory.
     pub fn is_same(&self, other: &QueuePair) -> bool
         requires plan { self.now.port.plan ≡ other.now.port.plan }
         requires side { self.now.port.side ≡ other.now.port.side }
@@ -251,7 +253,7 @@ impl QueuePair {
     ///
     /// # Errors
     ///
-    /// [`AllocError`] from out of memory alone.
+    /// [`AllocError`] as from [`Port::copy_of`].
     pub fn copy_of(&self, alloc: Global) -> Result<QueuePair, AllocError>
         ensures { IfOk result (λ copy. copy ≡ self.now) }
     {
@@ -290,8 +292,8 @@ impl QueuePair {
         }
     }
 
-    /// Whether [`QueuePair::begin`] would be refused for a frame of `len` bytes, 1 to 65,536, whatever room the ring has:
-    /// with `LinkDown`, `NotReady`, `Closed`, `TooLong` or `Busy`. It takes no memory.
+    /// Whether [`QueuePair::begin`] would be refused for a frame of `len` bytes, 1 to 65,536, whatever room the ring
+    /// has: with `LinkDown`, `NotReady`, `Closed`, `TooLong` or `Busy`. It takes no memory.
     pub fn refuses(&self, pair: &Pair, len: u32) -> bool
         requires some { 0 < len }
         requires most { len ≤ most_frame_bytes }
@@ -309,8 +311,8 @@ impl QueuePair {
         self.port.free(pair)
     }
 
-    /// Opens the queue and forgets all that was sent and received, as its side does at a clean, and gives back the promises
-    /// of room that weren't used. It takes no memory.
+    /// Opens the queue and forgets all that was sent and received, as its side does at a clean, and gives back the
+    /// promises of room that weren't used. It takes no memory.
     pub fn reset(&mut self, pair: &mut Pair)
         requires plan { pair.old.plan ≡ self.old.port.plan }
         requires room { HasRoomIn self.old.port pair.old }
@@ -378,8 +380,8 @@ fn answer_of_look(look: RingLook) -> LookAnswer
     }
 }
 
-/// A side takes its pending doorbell bits that aren't masked (`ntb_db_read`, `ntb_db_clear`): they are answered and no longer
-/// pending. It takes no memory.
+/// A side takes its pending doorbell bits that aren't masked (`ntb_db_read`, `ntb_db_clear`): they are answered and no
+/// longer pending. It takes no memory.
 pub fn irq(pair: &mut Pair, side: Side) -> u32
     ensures bits { result ≡ irq_bits pair.old side }
     ensures after { pair.new ≡ after_irq pair.old side }

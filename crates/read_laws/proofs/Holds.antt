@@ -11,8 +11,8 @@ use Rattle.read_model.specs.PathLog.{Entry}
 use Rattle.read_model.specs.Pushed.{Sent, SideTold, Told, told_of, posted_in, landed_in, memory_in, read_entry, request_entry}
 use Rattle.read_laws.proofs.Ahead.{AllAhead, Waits}
 
--- A request in flight from a side: its read is in the log, in this session, and each write that the side posted before it in the
--- session has landed or is in flight ahead of it.
+-- A request in flight from a side. Its read is in the log, in this session. Each write that the side posted before the
+-- read in the session has landed or is in flight ahead of the request.
 pub record RequestFact (log : List Entry) (dropped : ℕ) (landed : List ℕ) (side : Side) (ahead : List Sent) (number at len : ℕ) : Type 0 where
   pub asking : List Entry
   pub between : List Entry
@@ -20,8 +20,9 @@ pub record RequestFact (log : List Entry) (dropped : ℕ) (landed : List ℕ) (s
   pub session : (told_of asking).dropped ≡ dropped
   pub pushes : (w : ℕ) → Contains (posted_in asking side) w → Waits landed ahead w
 
--- The last completion of a read in flight from the peer of its side: the request has landed after each write that its side posted
--- before it, its bytes are what stood in memory then, and each write that the peer had posted has landed or is in flight ahead.
+-- The last completion of a read, in flight from the peer of the read's side. The request has landed after each write
+-- that this side posted before the read in the session, and the bytes are what stood in the peer's memory then. Each
+-- write that the peer had posted then in the session has landed or is in flight ahead.
 pub record LastFact (log : List Entry) (dropped : ℕ) (landed : List ℕ) (reader peer : Side) (ahead : List Sent) (number : ℕ) (bytes : List ℕ) : Type 0 where
   pub asking : List Entry
   pub at : ℕ

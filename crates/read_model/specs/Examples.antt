@@ -36,7 +36,8 @@ pub record ExamplesHold : Type 0 where
   pub passes :
       answers_of passing
       ≡ Asked (Posted 0) ∷ Wrote PostOk ∷ Landed (LandedWrite 0 1) ∷ Landed (Request 0) ∷ Landed (Whole 0 (97 ∷ [])) ∷ Shown (97 ∷ []) ∷ []
-  -- what the first log tells: side A's write is its step 0, and has landed before step 5; side B's is step 4, and hasn't
+  -- what the first log tells: side A's write is its step 0, and has landed before step 5; side B's is step 4, and
+  -- hasn't
   pub posted : posted_in (take 1 (log_of waiting)) A ≡ 0 ∷ []
   pub landed : landed_in (take 5 (log_of waiting)) ≡ 0 ∷ []
   pub posted_by_peer : posted_in (take 5 (log_of waiting)) B ≡ 4 ∷ []

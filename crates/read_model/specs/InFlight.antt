@@ -4,7 +4,8 @@ use Rattle.std.specs.List.{list_all}
 use Rattle.order_rules.specs.Order.{relaxed as relaxed_kind, strict as strict_kind}
 use Rattle.order_rules.specs.Transactions.{read_request, completion, may_overtake}
 
--- what a bridge carries from a side to its peer: the side's writes and read requests, and the completions of the peer's reads
+-- what a bridge carries from a side to its peer: the side's writes and read requests, and the completions of the peer's
+-- reads
 pub data Flying : Type 0 where
   -- a posted write of these bytes to this address
   Write : (at : ℕ) (bytes : List ℕ) (relaxed : Bool) → Flying
@@ -12,7 +13,8 @@ pub data Flying : Type 0 where
   Request : (number : ℕ) (at : ℕ) (len : ℕ) → Flying
   -- a completion of the peer's read of this number that isn't the last one
   Part : (number : ℕ) (part : ℕ) → Flying
-  -- the last completion of the peer's read of this number; all bytes of the read stand with it, since with it they are handed over
+  -- the last completion of the peer's read of this number; all bytes of the read stand with it, since with it they are
+  -- handed over
   Last : (number : ℕ) (bytes : List ℕ) → Flying
 
 -- the kind by which the table orders it

@@ -1,4 +1,5 @@
--- How a text of reads is written: its first line is `reads 1`, and each further one is a step, a comment, or has no words.
+-- How a text of reads is written: its first line is `reads 1`, and each further one is a step, a comment, or has no
+-- words.
 use Rattle.std.specs.Prelude.{ℕ, ◌+◌, ◌==◌, Bool, true, false, not, ◌&&◌, ◌||◌, Option, Some, None, Result, Ok, Err, List, [], ◌∷◌, codes, length, nat_lt, if◌then◌else◌}
 use Rattle.std.specs.Str.{bytes_eq}
 use Rattle.step_kinds.specs.Limits.{most_steps, most_write_bytes}

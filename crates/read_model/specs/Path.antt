@@ -1,5 +1,5 @@
--- Two sides that one bridge joins, by lists: the link, each side's memory, what it has in flight, and how many reads it made.
--- Of each call: what it answers, and what it leaves.
+-- Two sides that one bridge joins, by lists: the link, each side's memory, what it has in flight, and how many reads it
+-- made. Of each call: what it answers, and what it leaves.
 use Rattle.std.specs.Prelude.{ℕ, ◌+◌, ◌==◌, Bool, true, false, not, List, [], ◌∷◌, ◌++◌, length, replicate, remove, Option, Some, None, slice_get, if◌then◌else◌}
 use Rattle.host_memory.specs.Memory.{written, bytes_at}
 use Rattle.step_kinds.specs.Sides.{other_side}
@@ -91,8 +91,8 @@ answer_for (Some flying) false = Blocked
 abbrev pub land_answer : PathState → Side → ℕ → PathLand
 land_answer path side place = let flight = (at_side path.sides side).flight in answer_for (slice_get flight place) (may_land flight place)
 
--- What reaches a side. A write is stored. A request's bytes are all read, and its completions are posted after what the side has
--- in flight; they are lost where the link isn't up.
+-- What reaches a side. A write is stored. A request's bytes are all read, and its completions are posted after what the
+-- side has in flight; they are lost where the link isn't up.
 abbrev pub arrived : PathState → Side → Flying → PathState
 arrived path side (Write at bytes relaxed) = let state = at_side path.sides side in with_state path side (with_memory state (written at bytes state.memory))
 arrived path side (Request number at len) =

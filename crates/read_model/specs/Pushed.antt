@@ -1,5 +1,5 @@
--- What a log tells, read from its steps and answers alone, and that a read pushes the posted writes before it. A write is known by
--- the place of its step in the log.
+-- What a log tells, read from its steps and answers alone, and that a read pushes the posted writes before it. A write
+-- is known by the place of its step in the log.
 use Rattle.std.specs.Prelude.{◌≡◌, ℕ, ◌+◌, Bool, true, false, List, [], ◌∷◌, ◌++◌, map, remove, replicate, All, Contains, Option, Some, None, slice_get, fold, if◌then◌else◌}
 use Rattle.host_memory.specs.Memory.{written, bytes_at}
 use Rattle.step_kinds.specs.Sides.{other_side}
@@ -22,7 +22,8 @@ pub record Sent : Type 0 where
   pub place : ℕ
   pub what : Flying
 
--- what a log tells of a side: its memory, what it has in flight, and the places of the writes that it posted in this session
+-- what a log tells of a side: its memory, what it has in flight, and the places of the writes that it posted in this
+-- session
 pub record SideTold : Type 0 where
   pub memory : List ℕ
   pub flight : List Sent
@@ -157,7 +158,8 @@ request_entry side place number = record { step = Land side place; answer = Land
 abbrev pub data_entry : Side → ℕ → ℕ → List ℕ → Entry
 data_entry side place number bytes = record { step = Land (other_side side) place; answer = Landed (Whole number bytes) }
 
--- The log before `data N HEX` of a side has its `read N` and then its `landed read N`, and the read has pushed what was posted.
+-- The log before `data N HEX` of a side has its `read N` and then its `landed read N`, and the read has pushed what was
+-- posted.
 pub record HasPushed (before : List Entry) (side : Side) (number : ℕ) (bytes : List ℕ) : Type 0 where
   -- the log before `read N`, and the read
   pub asking : List Entry

@@ -29,7 +29,7 @@ land_text (Request number) = with_one (codes "landed read") number
 land_text (Part number part) = with_two (codes "part") number part
 land_text (Whole number bytes) = with_one (codes "data") number ++ 32 ∷ encode_lower bytes
 
--- a side of a path is never dirty and never without the link's consent, so the last two never come
+-- a relink cleans and enables both sides, so the last two never come
 abbrev pub refusal_text : LinkRefusal → List ℕ
 refusal_text NotUp = codes "notup"
 refusal_text NotClosing = codes "notclosing"

@@ -1,7 +1,7 @@
 //! Reads across a bridge, as definitions over lists: what is in flight each way, which of it may land, what a step
-//! answers and what it leaves, what a log of steps tells, and how a text of steps is written and answered.
+//! answers and what it leaves. They say what a log of steps tells, and how a text of steps is written and answered.
 //!
-//! A driver that has to know that its posted writes have landed reads the peer back: a read request waits for the
+//! A driver that has to know that its posted writes have landed reads the peer back. A read request waits for the
 //! posted writes before it, and a completion for those before it (PCI Express Base 4.0, section 2.4). This crate says
 //! so of a log; that it holds of every log is a law of `read_laws`.
 #![tactic(auto)]
@@ -33,7 +33,7 @@ pub enum PathStep {
         side: Side,
         place: u32,
     },
-    /// The side's own memory is shown: `len` bytes from the address `at` on.
+    /// The side's own memory is shown: `len` bytes, 1 to 64, from the address `at` on.
     Show {
         side: Side,
         at: u32,

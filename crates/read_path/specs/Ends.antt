@@ -27,7 +27,8 @@ completions_due (Last number bytes) = 0
 abbrev pub all_due : List Flying → ℕ
 all_due flight = sum_by completions_due flight
 
--- what it writes or asks for lies in a side's memory, and a request asks for a byte at least, and no more than a read may
+-- what it writes or asks for lies in a side's memory, and a request asks for a byte at least, and no more than a read
+-- may
 abbrev pub IsInRange : Flying → Type 0
 IsInRange (Write at bytes relaxed) = at + length bytes ≤ memory_bytes
 IsInRange (Request number at len) = (1 ≤ len) × (len ≤ most_read_bytes) × (at + len ≤ memory_bytes)

@@ -24,7 +24,7 @@ pub struct End {
 }
 
 impl End {
-    /// A side whose bytes are all 0, with nothing in flight and no read made.
+    /// A side whose bytes are all 0, with nothing in flight and no read made. The only error is running out of memory.
     pub fn new(alloc: Global) -> Result<End, AllocError>
         ensures fresh { IfOk result (λ end. end_seen end ≡ fresh_end) }
         ensures whole { IfOk result (λ end. IsEnd end) }
@@ -55,7 +55,8 @@ impl End {
         Ok(())
     }
 
-    /// The bytes from an address on, read into the whole of `out`.
+    /// The bytes from an address on, read into the whole of `out`. All of them lie in the memory, which is whole
+    /// (`IsEnd`).
     pub fn read(&self, at: u32, out: &mut [u8])
         requires whole { IsEnd self.now }
         requires within { at + length out.old ≤ memory_bytes }
@@ -98,9 +99,9 @@ impl End {
     }
 }
 
-/// One side asks for 1 to 512 bytes of its peer's memory from the address `at` on, and this is the number of its read. Room
-/// is taken for the request, for its completions and for the bytes. The only error is running out of memory, and then
-/// nothing changes.
+/// One side asks for 1 to 512 bytes of its peer's memory from the address `at` on, and this is the number of its read.
+/// Room is taken for the request, for its completions and for the bytes. The error is running out of memory, or the
+/// side's 2^64th read, and then nothing changes.
 pub fn ask(
     alloc: Global,
     from: &mut End,
@@ -134,7 +135,8 @@ pub fn ask(
     Ok(number)
 }
 
-/// Lands at one side what its peer has in flight at this place. It takes no memory.
+/// Lands at one side what its peer has in flight at this place. They are the sides of a path (`AreEnds`). It takes no
+/// memory.
 pub fn land_between(from: &mut End, to: &mut End, up: bool, place: usize) -> PathLand
     requires { AreEnds from.old to.old }
     ensures answer { result ≡ answer_for (slice_get from.old.flight.flying place) (may_land from.old.flight.flying place) }

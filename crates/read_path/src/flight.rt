@@ -92,7 +92,7 @@ impl Flight {
         Ok(())
     }
 
-    /// Gives back the promise of so many.
+    /// Gives back the promise of so many. So many have to be promised.
     pub fn give_back(&mut self, count: usize)
         requires { count ≤ self.old.spare }
         ensures { self.new ≡ record self.old { spare = self.old.spare - count } }
@@ -119,7 +119,8 @@ impl Flight {
         }
     }
 
-    /// Takes out what stands at this place. The room that it leaves isn't promised.
+    /// Takes out what stands at this place, or answers `None` where nothing does. The room that it leaves isn't
+    /// promised.
     pub fn take(&mut self, place: usize) -> Option<InFlight>
         ensures item { option_map flying_of result ≡ slice_get self.old.flying place }
         ensures rest { OnSome result (self.new ≡ record self.old { flying = remove self.old.flying place }) }
@@ -136,7 +137,7 @@ impl Flight {
         self.spare = 0;
     }
 
-    /// Sends so many completions of a read, none of them the last, into room that was promised.
+    /// Sends so many completions of a read, at most 3 and none of them the last, into room that was promised.
     pub fn push_parts(&mut self, number: u64, parts: usize)
         requires spare { parts ≤ self.old.spare }
         requires few { parts ≤ 3 }

@@ -12,8 +12,8 @@ abbrev pub output_of : Result (List ℕ) ℕ → Output
 output_of (Ok text) = done text
 output_of (Err line) = refused_at line (codes "badline")
 
--- The bytes are the lines of steps, the text has the lines of their answers, and each read in the log of these steps has pushed the
--- writes that were posted before it.
+-- The bytes are the lines of steps, and the text has the lines of their answers. Each read in the log of these steps
+-- has pushed the writes that were posted before it.
 pub record IsTrueReply (bytes text : List ℕ) : Type 0 where
   pub steps : List LineStep
   pub read : steps_of bytes ≡ Ok steps

@@ -15,7 +15,8 @@ use read_path::Path;
 use report_text::append::{push_hex, push_numbers, push_word};
 use std::alloc::AllocError;
 
-/// Makes a step on a path. The only error is running out of memory.
+/// Makes a step on a path. Its bytes are as many as such a step may have, and lie in a side's memory (`Fits`). The only
+/// error is running out of memory.
 pub fn make_step(path: &mut Path, step: &PathStep) -> Result<PathAnswer, AllocError>
     requires { Fits step.now }
     ensures answer { IfOk result (λ answer. answer ≡ answer_to path.old step.now) }

@@ -202,6 +202,15 @@ fn header_line<'a>(words: &mut Vec<&'a [u8]>, line: &'a [u8]) -> Result<Option<P
 
 /// The step that line `number` gives, where so many steps stand before it: the first line, a comment and a line without
 /// words give none. Its words are read into `words`.
+///
+/// Line 1, and each other line that has words and is no comment, may have a fault. It is the first of these:
+///
+/// - `NotText` where the line isn't text.
+/// - Of line 1, `BadHeader` where its words aren't `reads 1`.
+/// - Of any other, that of its words: `UnknownWord`, `BadName`, `BadNumber` or `BadHex`.
+/// - Of any other, `TooMany` where as many steps stand before it as a text may have.
+///
+/// The only other error is running out of memory.
 pub fn read_line<'a>(
     alloc: Global,
     number: u32,

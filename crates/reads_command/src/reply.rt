@@ -74,8 +74,8 @@ impl Reply {
     }
 }
 
-/// The reply to a text of reads of at most 16,777,216 bytes: a line `LINE ANSWER` for each step, and `end`. In the log of
-/// its steps each read has pushed the posted writes before it. Each step costs what it touches.
+/// The reply to a text of reads of at most 16,777,216 bytes: a line `LINE ANSWER` for each step, and `end`. In the log
+/// of its steps each read has pushed the posted writes before it. Each step costs what it touches.
 ///
 /// # Errors
 ///

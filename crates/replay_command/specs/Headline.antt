@@ -1,5 +1,5 @@
--- What the log of a plan keeps: on ordinary pairs it is in order and once, and refuses for want of room exactly where it should; on
--- every pair it refuses for want of the link exactly where it should; and frames keep their order over lanes that switches join.
+-- What a plan's log keeps. On ordinary pairs it is in order and once, also over lanes that switches join, and refuses
+-- for want of room exactly where it should. On every pair it refuses for want of the link exactly where it should.
 use Rattle.std.specs.Prelude.{◌≡◌, ℕ, ◌<◌, ◌&&◌, not, Some, List, [], ◌∷◌, ◌++◌, nat_lt}
 use Rattle.step_kinds.specs.Subject.{subject_of}
 use Rattle.step_kinds.specs.declared.names.LaneName.{LaneName}
@@ -18,7 +18,7 @@ use Rattle.replay_command.specs.Replays.{log_of_plan, steps_of}
 abbrev pub log_so_far : Plan → List Step → List Answered
 log_so_far plan before = switch_log plan (memory_of plan) before
 
--- a step of the plan, after these steps and before those, and its item of the log: that of an `xnext` that sends a
+-- a step of the plan, after these steps and before those, and its item of the log. The item of an `xnext` that sends a
 -- frame has the begin which it is
 pub record IsStepOf (plan : Plan) (before behind : List Step) (step : Step) (made : Answered) : Type 0 where
   pub place : steps_of plan ≡ before ++ step ∷ behind
@@ -34,11 +34,13 @@ pub record IsTrueLog (plan : Plan) : Type 0 where
       IsOrdinaryPair plan lane.pair → lane_begun_by made.step ≡ Some lane →
       is_again made.answer ≡ (not (refused_earlier plan (bridge_ledger plan (memory_of plan) before lane.pair) made.step)
       && nat_lt (room_in plan (log_so_far plan before) lane) (entries_needed plan lane made.step))
-  -- `linkdown` comes exactly on the steps that need a link, exactly where the last link step of the pair left it not up
+  -- `linkdown` comes exactly on the steps that need a link, exactly where the pair's link isn't up by the log (`up_at`)
   pub link_down : (before behind : List Step) (step : Step) (made : Answered) → IsStepOf plan before behind step made →
       is_link_down made.answer ≡ (needs_link made.step && not (up_at plan (subject_of made.step) (log_so_far plan before)))
-  -- the frames that went over some lanes, one after another by switches, are whole, each once and in the order of the first lane
+  -- the frames that went over some lanes, one after another by switches, are whole, each once and in the order of the
+  -- first lane
   pub paths : (first : LaneName) (others : List LaneName) → AreOrdinary plan (first ∷ others) →
       KeepsOrder plan (log_of_plan plan) first (path_frames plan (memory_of plan) (steps_of plan) first others)
-  -- where no switch has a port on a pair, the answers to the steps on it are those of the plan without the other pairs' steps
+  -- where no switch has a port on a pair, the answers to the steps on it are those of the plan without the other pairs'
+  -- steps
   pub separate : (pair : ℕ) → HasNoPort plan pair → made_on pair (on_bridges (log_of_plan plan)) ≡ on_bridges (log_so_far plan (steps_on pair (steps_of plan)))

@@ -22,7 +22,8 @@ pub record HasReplayed (plan : Plan) (lines : List Line) (cluster : ClusterState
   pub made : HasMade plan (steps_in lines) cluster
   pub kept : plan_held cluster ≡ declared_part plan
 
--- The cluster has made these lines after those before, and what is kept of their answers was added in turn to what was there.
+-- The cluster has made these lines after those before, and what is kept of their answers was added in turn to what was
+-- there.
 pub record HasKept {K : Type 0} (with_answer : K → AnsweredStep → K) (plan : Plan) (before lines : List Line) (cluster : ClusterState) (old new : K) : Type 0 where
   pub replayed : HasReplayed plan (before ++ lines) cluster
   pub answers : List Answered

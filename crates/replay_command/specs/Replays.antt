@@ -1,5 +1,5 @@
--- What is written of a plan whose steps are replayed: the report, and the summary of a generated load. Both are read off the log,
--- in which memories show what was stored.
+-- What is written of a plan whose steps are replayed: the report, and the summary of a generated load. Both are read
+-- off the log, in which memories show what was stored.
 use Rattle.std.specs.Prelude.{ℕ, ◌+◌, Bool, true, false, List, [], ◌∷◌, ◌++◌, count_by, codes, length, map, min}
 use Rattle.std.specs.List.{flat_map, range_with_len}
 use Rattle.step_kinds.specs.declared.names.LaneName.{LaneName}

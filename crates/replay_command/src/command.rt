@@ -16,8 +16,8 @@ use script_plan::Script;
 use script_text::{ParseError, read_script};
 use std::alloc::{AllocError, Global};
 
-/// The reply of `replay` to a script of at most 16,777,216 bytes: the report of the plan that it declares, with status 0,
-/// or its first line with a fault, with status 3. The only error is running out of memory.
+/// The reply of `replay` to a script of at most 16,777,216 bytes. It is the report of the plan that the script
+/// declares, with status 0, or the first line with a fault, with status 3. The only error is running out of memory.
 pub fn replay_reply(alloc: Global, bytes: &[u8]) -> Result<Reply, AllocError>
     requires { length bytes.now ≤ most_script_bytes }
     ensures { IfOk result (λ reply. IsReplayOf bytes.now reply) }

@@ -40,8 +40,8 @@ impl KeepsAnswers for AnswerLines {
     }
 }
 
-/// The report of a script: the answers to its steps, what its lanes accepted and delivered in each session, and what its
-/// devices counted. The only error is running out of memory.
+/// The report of a script: the answers to its steps, what its lanes accepted and delivered in each session, and what
+/// its devices counted. Its plan has to be whole (`IsWhole`). The only error is running out of memory.
 pub fn replay_text(alloc: Global, script: &Script) -> Result<Vec<u8>, AllocError>
     requires { IsWhole (plan_in script.now) }
     ensures { IfOk result (λ text. text.items ≡ text_of_plan (plan_in script.now)) }
@@ -63,8 +63,8 @@ fn text_by(alloc: Global, script: &Script, cluster: &mut Cluster) -> Result<Vec<
     Ok(text)
 }
 
-// Adds what stands after a report's answers: its lanes and devices, as the cluster that has made the steps counts them, and
-// the end.
+// Adds what stands after a report's answers: its lanes and devices, as the cluster that has made the steps counts them,
+// and the end.
 fn push_counts(
     alloc: Global,
     text: &mut Vec<u8>,
@@ -83,7 +83,7 @@ fn push_counts(
 }
 
 /// What the lanes of all pairs accepted and delivered, in each session where either isn't 0. The cluster has made the
-/// script's steps. The only error is out of memory.
+/// script's steps, and the script's plan is whole (`IsWhole`). The only error is out of memory.
 pub fn lane_counts(
     alloc: Global,
     script: &Script,
@@ -156,7 +156,8 @@ fn push_session(
     Ok(())
 }
 
-/// What the devices of a script counted. The cluster has made the script's steps. The only error is out of memory.
+/// What the devices of a script counted. The cluster has made the script's steps, and the script's plan is whole
+/// (`IsWhole`). The only error is out of memory.
 pub fn device_counts(
     alloc: Global,
     script: &Script,

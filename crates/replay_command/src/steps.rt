@@ -76,7 +76,8 @@ fn make_stretch<K: KeepsAnswers>(
     }
 }
 
-// Makes a step of few numbers of a line so many times. Posts and landings, which are the most, are made by code of their own.
+// Makes a step of few numbers of a line so many times. Posts and landings, which are the most, are made by code of
+// their own.
 fn make_repeated<K: KeepsAnswers>(
     line: u32,
     repeated: Repeated,
@@ -111,7 +112,7 @@ fn make_repeated<K: KeepsAnswers>(
     }
 }
 
-// Makes the steps of a line by which a side receives a frame in so many copies.
+// Makes the steps of a line by which a side receives an entry in so many copies.
 fn make_received<K: KeepsAnswers>(
     line: u32,
     pair: u32,
@@ -137,8 +138,9 @@ fn make_received<K: KeepsAnswers>(
     make_step(line, &Step::Ack { pair, side, queue }, cluster, kept)
 }
 
-// Makes a step of few numbers of a line so many times. Once it is refused it is refused again each further time, so it isn't
-// made any more. The step is put together anew each time, so that where its kind is known the others' code falls away.
+// Makes a step of few numbers of a line so many times. Once it is refused it is refused again each further time, so it
+// isn't made any more. The step is put together anew each time, so that where its kind is known the others' code falls
+// away.
 #[inline(always)]
 fn make_again<K: KeepsAnswers>(
     line: u32,

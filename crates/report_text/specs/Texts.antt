@@ -1,4 +1,5 @@
--- The texts of labels and answers: a word, and then its numbers and bytes. Numbers are decimal, bytes lower-case hexadecimal.
+-- The texts of labels and answers: a word, and then its numbers and bytes. Numbers are decimal, bytes lower-case
+-- hexadecimal.
 use Rattle.std.specs.Prelude.{ℕ, ◌==◌, not, IsTrue, List, [], ◌∷◌, ◌++◌, Option, Some, None, codes}
 use Rattle.std.specs.Fmt.{decimal}
 use Rattle.std.specs.List.{flat_map, list_any}

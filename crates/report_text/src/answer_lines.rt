@@ -40,8 +40,8 @@ impl AnswerLines {
         }
     }
 
-    /// Adds the line of an answer: the number of its script line, a space, and the answer's text. The only error is out of
-    /// memory, and then some part of the line may have been added.
+    /// Adds the line of an answer: the number of its script line, a space, and the answer's text. The only error is out
+    /// of memory, and then some part of the line may have been added.
     pub fn push(&mut self, made: &LineAnswer) -> Result<(), AllocError>
         ensures { OnOk result (self.new ≡ self.old ++ answer_line made.now) }
     {

@@ -36,7 +36,8 @@ pub fn push_answer(text: &mut Vec<u8>, answer: &Answer) -> Result<(), AllocError
     push_bytes(text, answer)
 }
 
-/// Adds the bytes that an answer ends with, if it does.
+/// Adds the bytes that an answer ends with, if it does. The only error is running out of memory, and then some part of
+/// them may have been added.
 pub fn push_bytes(text: &mut Vec<u8>, answer: &Answer) -> Result<(), AllocError>
     ensures { OnOk result (text.new.items ≡ text.old.items ++ bytes_text answer.now) }
 {
@@ -94,7 +95,7 @@ pub fn push_bytes(text: &mut Vec<u8>, answer: &Answer) -> Result<(), AllocError>
     }
 }
 
-/// Adds the text of an answer to a line, but for the bytes that the answer ends with.
+/// Adds the text of an answer to a line, but for the bytes that the answer ends with. There is room for the longest.
 pub fn put_start(line: &mut LineText, answer: &Answer)
     requires { START_ROOM + length line.old ≤ ROOM }
     ensures text { line.new ≡ line.old ++ start_text answer.now }

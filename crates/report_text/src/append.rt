@@ -12,13 +12,21 @@ use std::alloc::AllocError;
 const COPIES: u32 = 64;
 
 /// Adds a word.
+///
+/// # Errors
+///
+/// [`AllocError`] only when out of memory, and then some part may have been added.
 pub fn push_word(text: &mut Vec<u8>, word: &str) -> Result<(), AllocError>
     ensures { OnOk result (text.new.items ≡ text.old.items ++ word.now) }
 {
     text.extend_from_slice(word.as_bytes())
 }
 
-/// Adds numbers, each after a space.
+/// Adds numbers in decimal, each after a space.
+///
+/// # Errors
+///
+/// [`AllocError`] only when out of memory, and then some part may have been added.
 pub fn push_numbers(text: &mut Vec<u8>, numbers: &[u64]) -> Result<(), AllocError>
     ensures { OnOk result (text.new.items ≡ text.old.items ++ numbers_text numbers.now) }
 {
@@ -30,7 +38,11 @@ pub fn push_numbers(text: &mut Vec<u8>, numbers: &[u64]) -> Result<(), AllocErro
     Ok(())
 }
 
-/// Adds bytes in hexadecimal. It stays a call, so that a line without bytes pays nothing for it.
+/// Adds bytes in lower-case hexadecimal. It stays a call, so that a line without bytes pays nothing for it.
+///
+/// # Errors
+///
+/// [`AllocError`] only when out of memory, and then some part may have been added.
 #[inline(never)]
 pub fn push_hex(text: &mut Vec<u8>, bytes: &[u8]) -> Result<(), AllocError>
     ensures { OnOk result (text.new.items ≡ text.old.items ++ encode_lower bytes.now) }
@@ -42,7 +54,11 @@ pub fn push_hex(text: &mut Vec<u8>, bytes: &[u8]) -> Result<(), AllocError>
     Ok(())
 }
 
-/// Adds the bytes of a frame; one without bytes has a dash in their place.
+/// Adds the bytes of a frame in lower-case hexadecimal; one without bytes has a dash in their place.
+///
+/// # Errors
+///
+/// [`AllocError`] only when out of memory, and then some part may have been added.
 pub fn push_frame(text: &mut Vec<u8>, bytes: &[u8]) -> Result<(), AllocError>
     ensures { OnOk result (text.new.items ≡ text.old.items ++ frame_text bytes.now) }
 {
@@ -52,8 +68,12 @@ pub fn push_frame(text: &mut Vec<u8>, bytes: &[u8]) -> Result<(), AllocError>
     push_hex(text, bytes)
 }
 
-/// Adds bytes so many times. The block is a place for many copies, which are then added at a time; what stood there is
-/// gone.
+/// Adds bytes so many times. The block is a place for many copies, which are then added at a time; what stood there may
+/// be gone.
+///
+/// # Errors
+///
+/// [`AllocError`] only when out of memory, and then some part may have been added.
 pub fn push_repeated(
     text: &mut Vec<u8>,
     block: &mut Vec<u8>,

@@ -153,7 +153,7 @@ impl LineText {
         self.len = end + len;
     }
 
-    /// Adds a word and a number.
+    /// Adds a word and a number. There is room for the longest.
     #[inline]
     pub fn put_one<const N: usize>(&mut self, word: &[u8; N], one: u64)
         requires { N + SPACED + length self.old ≤ ROOM }
@@ -164,7 +164,7 @@ impl LineText {
         self.put_spaced(one);
     }
 
-    /// Adds a word and two numbers.
+    /// Adds a word and two numbers. There is room for the longest.
     #[inline]
     pub fn put_two<const N: usize>(&mut self, word: &[u8; N], one: u64, two: u64)
         requires { N + 2 * SPACED + length self.old ≤ ROOM }
@@ -176,7 +176,7 @@ impl LineText {
         self.put_spaced(two);
     }
 
-    /// Adds a word and three numbers, the last of which isn't kept.
+    /// Adds a word and three numbers, the last of which isn't kept. There is room for the longest.
     #[inline]
     pub fn put_three<const N: usize>(&mut self, word: &[u8; N], one: u64, two: u64, three: u64)
         requires { N + 3 * SPACED + length self.old ≤ ROOM }
@@ -203,7 +203,8 @@ impl LineText {
         }
     }
 
-    /// Adds a number after a space. Its digits aren't kept: it is seldom that of the line before.
+    /// Adds a number after a space. Its digits aren't kept: it is seldom that of the line before. There is room for the
+    /// longest.
     pub fn put_fresh(&mut self, number: u64)
         requires { SPACED + length self.old ≤ ROOM }
         ensures text { self.new ≡ self.old ++ numbers_text (number ∷ []) }

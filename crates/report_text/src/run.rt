@@ -18,9 +18,10 @@ struct FrameCounts {
     left: u64,
 }
 
-/// The text of a threaded run: for each lane of the record and each of its sessions, from session 1 on, a line with how
-/// many frames were accepted, delivered and left, then these frames, numbered from 0 in each session, those that were
-/// left after those that were delivered; and `end`. The only error is running out of memory.
+/// The text of a threaded run: for each lane of the record the lines of its sessions, from session 1 on, and then
+/// `end`. A session has a line with how many frames were accepted, delivered and left. Then come these frames, numbered
+/// from 0 in each session, those that were left after those that were delivered. The only error is running out of
+/// memory.
 ///
 /// Each lane names a pair of the plan.
 pub fn record_text(alloc: Global, plan: &Plan, run: &RunRecord) -> Result<Vec<u8>, AllocError>
@@ -94,7 +95,7 @@ fn push_counts(text: &mut Vec<u8>, counts: FrameCounts) -> Result<(), AllocError
     push_word(text, "\n")
 }
 
-/// Adds frames after a word, numbered from `first` on.
+/// Adds frames after a word, numbered from `first` on. The number after the last is below 2^64.
 #[tactic(auto, using(crate::proofs::Runs::frame_lines_more))]
 pub(crate) fn push_frames(
     text: &mut Vec<u8>,

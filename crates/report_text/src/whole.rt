@@ -22,9 +22,9 @@ pub struct LaneCount {
     pub delivered: u64,
 }
 
-/// The report of a replay: a line for each answer in order, with the number of its script line; a line for each lane
-/// and session where a frame was accepted or delivered; a line for each device of the plan; and `end`. The only error
-/// is out of memory.
+/// The report of a replay: a line for each answer in order, with the number of its script line. Then come a line for
+/// each lane and session where a frame was accepted or delivered, a line for each device of the plan, and `end`. The
+/// only error is out of memory.
 ///
 /// Each lane names a pair of the plan, and there are as many counters as the plan has devices.
 pub fn report(
@@ -47,8 +47,8 @@ pub fn report(
     Ok(text)
 }
 
-/// Adds what a report ends with, after its answers: a line for each lane and session where a frame was accepted or
-/// delivered; a line for each device of the plan; and `end`. The only error is running out of memory, and then some
+/// Adds what a report ends with, after its answers. That is a line for each lane and session where a frame was accepted
+/// or delivered, a line for each device of the plan, and `end`. The only error is running out of memory, and then some
 /// part of the text may have been added.
 ///
 /// Each lane names a pair of the plan, and there are as many counters as the plan has devices.
@@ -94,7 +94,8 @@ fn push_count(text: &mut Vec<u8>, pairs: &[PairPlan], count: &LaneCount) -> Resu
     push_word(text, "\n")
 }
 
-/// Adds a lane in a session.
+/// Adds a lane in a session. The only error is running out of memory, and then some part of it may have been added. The
+/// lane names one of the pairs.
 pub fn push_lane(
     text: &mut Vec<u8>,
     pairs: &[PairPlan],

@@ -11,8 +11,8 @@ use step_kinds::{Frame, FrameList};
 use stream_model::{AckAnswer, Place};
 
 /// The sending end of a stream of items. Contracts see a `Sender` of [`stream_model`]: the items, the number that was
-/// acknowledged, the number at which the session starts, how far the sender is, and how far it was before it gave a
-/// frame, where that was its last change.
+/// acknowledged, the number at which the session starts, and how far the sender is. Where its last change was that it
+/// gave a frame, they also see how far it was before.
 #[derive(Drop)]
 pub struct StreamSender {
     alloc: Global,
@@ -41,8 +41,8 @@ impl StreamSender {
     }
 
     /// Gives the next frame of the session: first the frame of the number at which the session starts, then a copy of
-    /// each item from that number on. `None` exactly where all of them were given, and then nothing changes. A frame that
-    /// is answered can be given back until the sender changes again.
+    /// each item from that number on. `None` exactly where all of them were given, and then nothing changes. A frame
+    /// that is answered can be given back until the sender changes again.
     ///
     /// # Errors
     ///

@@ -15,7 +15,8 @@ use step_kinds::FrameList;
 use stream_model::StreamEvent;
 
 /// Makes these events, in order, on a sender of these items and a receiver that are joined by lists of frames, and
-/// answers both ends as they are then. An event that can't be made changes nothing. There are fewer than 2^32 - 1 items.
+/// answers both ends as they are then. An event that can't be made changes nothing. There are fewer than 2^32 - 1
+/// items.
 ///
 /// Whatever the events, what the receiver keeps is a prefix of all items, each once; no more is acknowledged than it
 /// keeps; and no call answered `Bad` (`prefix`, `acked`, `not_bad`). Where since the last Lose and the last GiveBack

@@ -70,7 +70,8 @@ header_of l i = slot_of l i + frame_size l - l.header
 abbrev pub index_of : Layout → ℕ
 index_of l = area_start l + area l - 4
 
--- the queue is one of the side's, its area has room for the index word, and an entry for a header and four bytes more
+-- there is a window, the queue is one of the side's, its area has room for the index word, and an entry for a header
+-- and four bytes more
 pub record HasRing (l : Layout) : Type 0 where
   pub some_window : 0 < l.windows
   pub a_queue : l.queue < l.queues

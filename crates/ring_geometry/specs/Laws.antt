@@ -37,6 +37,6 @@ AreasStandApart = (k l : Layout) → HasRing k → HasRing l → IsSameSide k l 
 abbrev pub AreaLiesInWindow : Type 0
 AreaLiesInWindow = (l : Layout) → HasRing l → (area_start l + area l ≤ l.window) × (window_of l < l.windows)
 
--- what head and index word show as free is what the counts say, while one entry stays free
+-- what head and index word show as free is what the counts say, in a ring of two entries at least, while one stays free
 abbrev pub FreeIsRoom : Type 0
 FreeIsRoom = (entries begun freed : ℕ) → 2 ≤ entries → freed ≤ begun → begun ≤ freed + entries - 1 → free_entries entries (head_of entries begun) (tail_of entries freed) ≡ room_of entries begun freed

@@ -4,8 +4,8 @@ use Rattle.std.specs.Prelude.{◌≢◌, ℕ, ◌+◌, ◌*◌, ◌<◌, ◌≤�
 use Rattle.ring_geometry.specs.Geometry.{Layout, layout_with, HasRing, window_of, entries_of, max_payload_of, slot_of, header_of, index_of}
 use Rattle.ring_geometry.specs.Laws.{StandApart}
 
--- the numbers of the rings in one memory: the bytes of each window that the peer sends through, the bytes of each
--- window that the memory gives, and what the pair agreed on
+-- the numbers of the rings in one memory: bytes of each window that the peer sends through and of each that the memory
+-- gives, and what the pair agreed on
 pub record Rings : Type 0 where
   pub size : ℕ
   pub cap : ℕ
@@ -62,8 +62,8 @@ spot_at rings spot = address_of rings (queue_of spot) (offset_in (layout_at ring
 abbrev pub spot_bytes : Rings → Spot → ℕ
 spot_bytes rings spot = bytes_in (layout_at rings (queue_of spot)) spot
 
--- two spots that aren't parts of one another: of two queues, of two slots, a payload and a header, two fields of a
--- header, or one of them an index word
+-- two spots, neither part of the other: of two queues, of two slots, a payload and a header, two fields of a header, or
+-- one of them an index word
 abbrev pub AreOther : Spot → Spot → Type 0
 AreOther (Payload queue slot) (Payload queue' slot') = (queue ≢ queue') ⊎ (slot ≢ slot')
 AreOther (Payload queue slot) (Header queue' slot' from' len') = Unit {0}
@@ -80,7 +80,8 @@ abbrev pub SpotsStandApart : Type 0
 SpotsStandApart = (rings : Rings) → rings.size ≤ rings.cap → (one other : Spot) → IsSpot rings one → IsSpot rings other → AreOther one other
     → StandApart (spot_at rings one) (spot_bytes rings one) (spot_at rings other) (spot_bytes rings other)
 
--- a spot lies in its window, as the peer's size has it, and in the memory
+-- a spot lies in its window, as the peer's size has it, and in the memory where such windows fit into those that the
+-- memory gives
 abbrev pub SpotsLieInside : Type 0
 SpotsLieInside = (rings : Rings) → (spot : Spot) → IsSpot rings spot
     → (offset_in (layout_at rings (queue_of spot)) spot + spot_bytes rings spot ≤ rings.size)

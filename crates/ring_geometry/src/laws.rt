@@ -41,18 +41,20 @@ pub fn area_lies_in_window()
     ensures { AreaLiesInWindow }
 {}
 
-/// What head and index word show as free is what the counts of entries begun and given back say.
+/// What head and index word show as free is what the counts of entries begun and given back say. Premises: the ring has
+/// two entries at least, no more were given back than begun, and one entry stays free.
 pub fn free_is_room()
     ensures { FreeIsRoom }
 {}
 
-/// Payloads, header fields and index words of all rings in one memory share no byte, also where the windows of the peer
-/// are smaller than those that the memory gives.
+/// Payloads, header fields and index words of all rings in one memory share no byte. Premise: the peer's windows fit
+/// into those that the memory gives; they may be smaller.
 pub fn spots_stand_apart()
     ensures { SpotsStandApart }
 {}
 
-/// Each of them lies within its window and in the memory.
+/// Each payload, header field and index word lies within its window. It lies in the memory too where the peer's windows
+/// fit into those that the memory gives.
 pub fn spots_lie_inside()
     ensures { SpotsLieInside }
 {}

@@ -1,5 +1,5 @@
 //! Where the ring of a queue lies in its translation window: the queue's area, its entries, their headers and the
-//! index word, as the transport of the Linux NTB driver places them
+//! index word. They lie as the transport of the Linux NTB driver places them
 //! (Linux `Documentation/driver-api/ntb.rst`, `ntb_transport`).
 //!
 //! The queues of a side take its windows in turn. Each window is cut into equal areas, one for each queue that lies
@@ -30,8 +30,12 @@ use thiserror::Error;
 
 pub mod laws;
 
-/// The numbers make no ring: there is no window, the queue is none of the side's, its area has no room for the index
-/// word, or an entry would have no room for its header and four bytes more.
+/// The numbers make no ring. One of these is so:
+///
+/// - There is no window.
+/// - The queue is none of the side's.
+/// - Its area has no room for the index word.
+/// - An entry would have no room for its header and four bytes more.
 #[derive(Clone, Copy, Debug, PartialEq, Eq, Error)]
 #[error("no ring fits these numbers")]
 pub struct BadGeometry;
@@ -55,14 +59,14 @@ impl Geometry {
     /// Places the ring of the queue `queue` of `queues`, counted from 0, on a side with `windows` translation
     /// windows: at most 16 queues and 4 windows.
     ///
-    /// `window` is the size of the queue's window, at most 268,435,456, `mtu` the largest entry, at most 65,536, and
-    /// `header` the size of a header, at most 16 (12 on version 4 of the transport, 16 on version 5), each in bytes. An
-    /// entry is `mtu` bytes long, or half of what the area has for entries where that is less.
+    /// `window` is the size of the queue's window, at most 268,435,456, and `mtu` the largest entry, at most 65,536.
+    /// `header` is the size of a header, at most 16 (12 on version 4 of the transport, 16 on version 5). Each is in
+    /// bytes. An entry is `mtu` bytes long, or half of what the area has for entries where that is less.
     ///
     /// # Errors
     ///
-    /// [`BadGeometry`] exactly where `windows` is 0, `queue` is not below `queues`, the area has no four bytes for the
-    /// index word, or an entry has not the header and four bytes more.
+    /// [`BadGeometry`] exactly where `windows` is 0, `queue` isn't below `queues`, the area hasn't four bytes for the
+    /// index word, or an entry hasn't the header and four bytes more.
     pub fn new(
         window: u64,
         windows: u32,
@@ -132,9 +136,9 @@ impl Geometry {
         self.frame_bytes - self.header
     }
 
-    /// The most bytes of a frame that may take several entries, as on version 5 of the transport: it fits into an empty
-    /// ring, in which one entry stays free, and has 65,536 bytes at most. A frame of one entry has at most
-    /// [`Geometry::max_payload`] bytes.
+    /// The most bytes of a frame that may take several entries, as on version 5 of the transport. Such a frame fits
+    /// into an empty ring, in which one entry stays free, and has 65,536 bytes at most. A frame of one entry has at
+    /// most [`Geometry::max_payload`] bytes.
     pub fn longest(&self) -> u32
         ensures { result ≡ longest_of self.now }
     {

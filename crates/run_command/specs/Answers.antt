@@ -9,7 +9,8 @@ use Rattle.step_kinds.specs.Runs.{LaneShown}
 use Rattle.step_kinds.specs.declared.plan.Plan.{Plan}
 use Rattle.table_lane.specs.EndOfLane.{Shown}
 
--- what comes with the text of a command: the record of a threaded run, where it is that of one, and the proofs of its sessions
+-- what comes with the text of a command: the record of a threaded run, where it is that of one, and the proofs of its
+-- sessions
 pub record Carried : Type 0 where
   pub run : Option (List LaneShown)
   pub proofs : List Shown

@@ -34,9 +34,9 @@ pub struct RunReply {
     pub proofs: Vec<LaneProof>,
 }
 
-/// The reply of `run` to a script of at most 16,777,216 bytes. Where it declares a plan, threads send the plan's traffic, and
-/// the reply is the text of the record of that, with status 0, beside the record and its proofs; else it is the first line
-/// with a fault, with status 3. The only error is running out of memory.
+/// The reply of `run` to a script of at most 16,777,216 bytes. Where it declares a plan, threads send the plan's
+/// traffic. The reply is then the text of the record of that, with status 0, beside the record and its proofs. Else it
+/// says the first line with a fault, with status 3. The only error is running out of memory.
 ///
 /// Each worker of the run passes the gate before each of its turns. The gate has to let all workers with numbers below
 /// 262,140 pass, before each turn with a number below 2^64.

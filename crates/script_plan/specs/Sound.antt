@@ -9,7 +9,8 @@ use Rattle.script_words.specs.Before.{Before, has_name, pair_names, dev_names, s
 use Rattle.script_words.specs.declared.line_gives.Given.{Given}
 use Rattle.script_words.specs.declared.line_gives.Given.TheVariants.{Nothing, Host, Pair, Device, Class, Switch, StepsBegin, TrafficBegins, Frame, Flood, Break}
 
--- the pairs, devices and switches are as a script can declare them, pairs and steps are few, and each pair has its hosts
+-- the pairs, devices and switches are as a script can declare them, pairs and steps are few, and each pair has its
+-- hosts
 pub record IsSound (before : Before) : Type 0 where
   pub pairs : All IsPair before.plan.pairs
   pub few_pairs : length before.plan.pairs ≤ most_pairs
@@ -23,7 +24,8 @@ pub record IsKept (step_count : ℕ) (before : Before) : Type 0 where
   pub sound : IsSound before
   pub counted : step_count ≡ length before.plan.steps
 
--- what a line gives is new where it has a name, is as a script can declare it, and passes no limit
+-- what a line gives is new where it has a name, and passes no limit; a pair, device, class or switch is as a script can
+-- declare it
 abbrev pub Suits : Before → Given → Type 0
 Suits before Nothing = Unit {0}
 Suits before (Host name) = (has_name before.hosts name ≡ false) × (length before.hosts < most_hosts)

@@ -1,5 +1,5 @@
-//! What the lines of a script so far give: the plan that grows line by line, with the names by which it is looked up
-//! and the counters of its limits.
+//! What the lines of a script so far give: the plan that grows line by line, the names by which it is looked up, and
+//! the counters of its limits.
 #![tactic(auto)]
 
 mod by_name;

@@ -43,7 +43,7 @@ impl Names {
         self.names.contains(name)
     }
 
-    /// The number of the name, from 0.
+    /// The number of the name, from 0; `None` exactly where it isn't among them.
     pub fn number(&self, name: &[u8]) -> Option<u32>
         ensures value { result ≡ number_named self.now name.now }
         ensures below { IfSome result (λ k. k < length self.now) }
@@ -65,7 +65,8 @@ impl Names {
         }
     }
 
-    /// Adds a name that isn't there yet. The only error is running out of memory, and then nothing is added.
+    /// Adds a name that isn't there yet to fewer than 64. The only error is running out of memory, and then nothing is
+    /// added.
     pub fn push(&mut self, alloc: Global, name: &[u8]) -> Result<(), AllocError>
         requires new { has_name self.old name.now ≡ false }
         requires few { length self.old < 64 }

@@ -11,7 +11,8 @@ use step_kinds::{PairPlan, Side};
 pub type Pairs = Declared<PairPlan>;
 
 impl Declared<PairPlan> {
-    /// Gives one queue of a side of a pair its class.
+    /// Gives one queue of a side of a pair its class. The pair is one that is declared, and the queue's number is below
+    /// 16.
     pub fn set_class(&mut self, number: u32, side: Side, queue: u32, class: u32)
         requires number { number < length self.old }
         requires queue { queue < 16 }

@@ -84,7 +84,7 @@ impl Reader {
         &self.pairs
     }
 
-    /// The pair with the number.
+    /// The pair with the number, which has to be below how many there are.
     pub fn pair(&self, number: u32) -> &PairPlan
         requires { number < length self.now.plan.pairs }
         ensures value { result.now ≡ pair_plan self.now.plan number }
@@ -93,7 +93,7 @@ impl Reader {
         self.pairs.get(number)
     }
 
-    /// The device with the number.
+    /// The device with the number, which has to be below how many there are.
     pub fn device(&self, number: u32) -> &DevPlan
         requires { number < length self.now.plan.devs }
         ensures value { result.now ≡ dev_plan self.now.plan.devs number }
@@ -116,7 +116,7 @@ impl Reader {
         &self.switches
     }
 
-    /// The switch with the number.
+    /// The switch with the number, which has to be below how many there are.
     pub fn switch(&self, number: u32) -> &SwitchPlan
         requires { number < length self.now.plan.switches }
         ensures value { result.now ≡ switch_plan self.now.plan number }
@@ -132,7 +132,7 @@ impl Reader {
         self.switches.any_port(dev)
     }
 
-    /// The name of the host on which the device with the number stands.
+    /// The name of the host on which the device with the number stands. It has to be below how many devices there are.
     pub fn host_of(&self, dev: u32) -> &[u8]
         requires { dev < length self.now.plan.devs }
         ensures { result.now ≡ host_of self.now dev }
@@ -219,7 +219,8 @@ impl Reader {
         Ok(())
     }
 
-    /// Adds the steps of line `line`. The only error is running out of memory, and then nothing is added.
+    /// Adds the steps of line `line`, with which there are 1,000,000 at most. The only error is running out of memory,
+    /// and then nothing is added.
     #[inline(always)]
     pub fn add_steps(&mut self, line: u32, more: Macro) -> Result<(), AllocError>
         requires { length self.old.plan.steps + length (steps_of more) ≤ most_steps }
@@ -232,7 +233,8 @@ impl Reader {
         Ok(())
     }
 
-    /// Adds the only step of line `line`. The only error is running out of memory, and then nothing is added.
+    /// Adds the only step of line `line` to fewer than 1,000,000. The only error is running out of memory, and then
+    /// nothing is added.
     pub fn add_step(&mut self, line: u32, step: Step) -> Result<(), AllocError>
         requires { length self.old.plan.steps < most_steps }
         ensures ok { OnOk result (self.new ≡ with_given line self.old (MoreSteps (step ∷ []))) }
@@ -243,8 +245,11 @@ impl Reader {
         Ok(())
     }
 
-    /// Adds what a line gives, whose number is `line`. The only error is running out of memory, and then no more is
-    /// said of what the lines so far give.
+    /// Adds what line `line` gives beside steps. The only error is running out of memory, and then no more is said of
+    /// what the lines so far give.
+    ///
+    /// A name has to be new, a pair, device, class or switch as a script can declare it, and no limit is passed. A pair
+    /// that loses its link has a number below 16.
     pub fn add(&mut self, alloc: Global, line: u32, given: Given) -> Result<(), AllocError>
         requires suits { Suits self.old given }
         ensures { OnOk result (self.new ≡ with_given line self.old (given_of given)) }

@@ -1,4 +1,5 @@
--- What a line gives beside the lines so far: it is new where it has a name, is as a script can declare it, and passes no limit.
+-- What a line gives beside the lines so far: it is new where it has a name, is as a script can declare it, and passes
+-- no limit.
 use Rattle.std.proofs.Common.{◌≡◌, ℕ, ◌+◌, ◌<◌, ◌≤◌, false, List, ◌++◌, length, map, sum, count_by}
 use Rattle.std.specs.List.{All, AllPairs, list_any}
 use Rattle.step_kinds.specs.Limits.{most_hosts, most_pairs, most_devices, most_switches, most_steps, most_traffic_frames, most_traffic_bytes, most_breaks, IsClass}

@@ -5,7 +5,7 @@ use Rattle.plan_model.specs.TrafficPlans.{IsWhole}
 use Rattle.script_words.specs.declared.fault.ScriptFault.{ScriptFault}
 use Rattle.script_text.specs.Script.{script_of}
 
--- every plan of a script is whole: its pairs, devices, steps and traffic are as a script can declare them
+-- every plan of a script is whole: its pairs, devices, switches, steps and traffic are as a script can declare them
 abbrev pub EachPlanIsWhole : Type 0
 EachPlanIsWhole = (bytes : List ℕ) (plan : Plan) → script_of bytes ≡ Ok plan → IsWhole plan
 

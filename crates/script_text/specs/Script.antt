@@ -32,8 +32,8 @@ words_line before Declarations (word ∷ words) = declaration_line before word w
 words_line before Steps (word ∷ words) = step_line before word words
 words_line before Traffic (word ∷ words) = traffic_line before word words
 
--- What line n gives after what the lines before it gave, or its first fault. From line 2 on a line without words and a comment
--- are skipped, whatever their bytes are.
+-- What line n gives after what the lines before it gave, or its first fault. From line 2 on a line without words and a
+-- comment are skipped, whatever their bytes are.
 abbrev pub line_gives : ℕ → Before → List ℕ → Result Given LineFault
 line_gives n before line =
     if n == 1 then header_line line

@@ -4,14 +4,14 @@ ghost use Rattle.std.specs.Prelude.{◌≡◌, ◌-◌, ◌≤◌, length, take,
 ghost use Rattle.script_text.specs.Laws.{EachPlanIsWhole, FaultEndsAt};
 ghost use Rattle.script_text.specs.Script.{script_of};
 
-/// Each plan that a script declares is whole: its pairs, devices, steps and traffic are as a script can declare them, and
-/// no limit is passed. No premise.
+/// Each plan that a script declares is whole: its pairs, devices, switches, steps and traffic are as a script can
+/// declare them, and no limit is passed. No premise.
 pub fn each_plan_is_whole()
     ensures { EachPlanIsWhole }
 {}
 
-/// A script that is cut after a line feed is still one: where the whole bytes declare a plan, so do the first `end` of
-/// them, the last of which is a line feed.
+/// A script that is cut after a line feed is still one. Where the whole bytes declare a plan, so do the first `end` of
+/// them, at least one, the last of which is a line feed.
 pub fn cut_plan(bytes: &[u8], end: usize)
     requires plan { IsOk (script_of bytes.now) }
     requires some { 1 ≤ end }
@@ -20,8 +20,8 @@ pub fn cut_plan(bytes: &[u8], end: usize)
     ensures { IsOk (script_of (take end bytes.now)) }
 {}
 
-/// A script's fault hangs on nothing after its line: where the line with the fault ends with the line feed before place
-/// `end`, any other bytes that begin with the same `end` bytes have the same fault, in the same line.
+/// A script's fault hangs on nothing after its line, where that line ends with the line feed before place `end`. Any
+/// other bytes that begin with the same `end` bytes have the same fault, in the same line.
 pub fn same_fault(bytes: &[u8], other: &[u8], end: usize)
     requires fault { FaultEndsAt bytes.now end }
     requires same { take end other.now ≡ take end bytes.now }

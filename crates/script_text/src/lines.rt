@@ -11,7 +11,7 @@ use memchr::memchr;
 use script_words::{Given, LineError, LineFault};
 use std::alloc::AllocError;
 
-/// A line of fewer bytes is read byte by byte, a longer one by searches of many bytes at a time.
+/// A line of fewer bytes is read byte by byte, any other by searches of many bytes at a time.
 const SHORT_LINE: usize = 64;
 
 /// What a line gives, or why it gives nothing.

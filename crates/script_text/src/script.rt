@@ -115,8 +115,13 @@ fn add_line<'a>(
     }
 }
 
-/// What the lines of a script of at most 16,777,216 bytes declare, or its fault: the first line that has one, and that
-/// line's first fault. `OutOfMemory` says that there is no memory for what it declares, and nothing of the script.
+/// What the lines of a script of at most 16,777,216 bytes declare.
+///
+/// # Errors
+///
+/// [`ParseError::OutOfMemory`] only where there is no memory for what the script declares: it says nothing of the
+/// script. Else [`ParseError::Fault`] exactly where the script has a fault: the first line that has one, and that
+/// line's first fault.
 pub fn read_declared(alloc: Global, bytes: &[u8]) -> Result<Reader, ParseError>
     requires { length bytes.now ≤ most_script_bytes }
     ensures { Parses result (rules.declared_by bytes.now) }
@@ -148,8 +153,12 @@ fn add_lines(alloc: Global, before: &mut Reader, bytes: &[u8]) -> Result<(), Par
     Ok(())
 }
 
-/// What a script of at most 16,777,216 bytes declares, with its steps as its lines have them, or its fault, as
-/// [`read_declared`] gives it. `OutOfMemory` says that there is no memory for what it declares, and nothing of the script.
+/// What a script of at most 16,777,216 bytes declares, with its steps as its lines have them.
+///
+/// # Errors
+///
+/// [`ParseError::OutOfMemory`] only where there is no memory for what the script declares: it says nothing of the
+/// script. Else [`ParseError::Fault`] exactly where the script has a fault, which is as [`read_declared`] answers it.
 pub fn read_script(alloc: Global, bytes: &[u8]) -> Result<Script, ParseError>
     requires { length bytes.now ≤ most_script_bytes }
     ensures { Parses (result_map plan_in result) (rules.script_of bytes.now) }
@@ -158,8 +167,12 @@ pub fn read_script(alloc: Global, bytes: &[u8]) -> Result<Script, ParseError>
     Ok(declared.into_script(alloc))
 }
 
-/// The plan that a script of at most 16,777,216 bytes declares, in which each step stands by itself, or its fault as
-/// [`read_script`] gives it. `OutOfMemory` says that there is no memory for the plan, and nothing of the script.
+/// The plan that a script of at most 16,777,216 bytes declares, in which each step stands by itself.
+///
+/// # Errors
+///
+/// [`ParseError::OutOfMemory`] only where there is no memory for the plan: it says nothing of the script. Else
+/// [`ParseError::Fault`] exactly where the script has a fault, which is as [`read_declared`] answers it.
 pub fn parse(alloc: Global, bytes: &[u8]) -> Result<Plan, ParseError>
     requires { length bytes.now ≤ most_script_bytes }
     ensures { Parses result (rules.script_of bytes.now) }

@@ -23,8 +23,8 @@ use Rattle.script_words.specs.declared.fault.Cause.{Cause}
 use Rattle.script_words.specs.declared.fault.Cause.TheVariants.{UnknownName}
 use Rattle.script_words.specs.declared.fault.LineFault.{LineFault}
 
--- The part that the next line stands in, the names of the hosts, the plan so far, the hosts of its pairs, and the queues whose class
--- was declared.
+-- The part that the next line stands in, the names of the hosts, the plan so far, the hosts of its pairs, and the
+-- queues whose class was declared.
 pub record Before : Type 0 where
   pub part : Part
   pub hosts : List (List ℕ)

@@ -1,5 +1,5 @@
--- Declarations: hosts, pairs, devices, classes and switches. The tests of a line come in this order: the words from left to right, each one's
--- spelling, then what it names, then its range; then the line as a whole.
+-- Declarations: hosts, pairs, devices, classes and switches. A line's words are tested from left to right: of each its
+-- spelling, then what it names, then its range. The tests of the line as a whole come after them.
 use Rattle.std.specs.Prelude.{ℕ, ◌==◌, Bool, true, false, if◌then◌else◌, not, ◌&&◌, Result, Ok, Err, List, [], ◌∷◌, length, codes, nat_le, nat_lt}
 use Rattle.std.specs.List.{list_any}
 use Rattle.std.specs.Str.{bytes_eq}
@@ -103,7 +103,8 @@ switch_line before name_text dev_texts = do
   _ ← fault_if (not (nat_lt (length before.plan.switches) most_switches)) (whole TooMany)
   Ok (ASwitch (record { name = name; ports = ports }))
 
--- A line among the declarations: its first word says what it is, and then the number of its words has to be one that it takes.
+-- A line among the declarations: its first word says what it is, and then the number of its words has to be one that it
+-- takes.
 abbrev pub lone_word : List (List ℕ) → Given → Result Given LineFault
 lone_word [] given = Ok given
 lone_word words given = Err unknown_line

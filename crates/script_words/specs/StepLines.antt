@@ -1,4 +1,5 @@
--- Lines of steps and macros, grouped by their arguments: P is a pair, S a side, Q a queue of that side. The first word is word 1.
+-- Lines of steps and macros, grouped by their arguments: P is a pair, S a side, Q a queue of that side. The first word
+-- is word 1.
 use Rattle.std.specs.Prelude.{ℕ, ◌+◌, ◌*◌, Bool, true, false, not, ◌&&◌, Option, Some, None, Result, Ok, Err, List, [], ◌∷◌, length, codes, min, nat_lt, if◌then◌else◌}
 use Rattle.std.specs.Str.{bytes_eq}
 use Rattle.step_kinds.specs.Limits.{most_frame_bytes, most_poke_bytes, most_steps}
@@ -143,8 +144,8 @@ show_memory_line before pair_text side_text start_text len_text = do
 abbrev pub reach : PairPlan → Side → ℕ
 reach pair side = min (side_plan pair side).size (side_plan pair (other_side side)).cap
 
--- `poke P S WINDOW OFFSET HEX`: in a window that both sides have, within what reaches the peer's memory, on a raw pair, and no more
--- bytes than a poke may write
+-- `poke P S WINDOW OFFSET HEX`: in a window that both sides have, within what reaches the peer's memory, on a raw pair,
+-- and no more bytes than a poke may write
 abbrev pub poke_line : Before → List ℕ → List ℕ → List ℕ → List ℕ → List ℕ → Result Given LineFault
 poke_line before pair_text side_text window_text offset_text bytes_text = do
   name ← named_side before 2 pair_text side_text

@@ -1,5 +1,5 @@
--- How a script is spelled: lines and words, names, sides, numbers and bytes. Bytes are numbers: 10 is a line feed, 13 a carriage
--- return, 32 a space and 35 a number sign.
+-- How a script is spelled: lines and words, names, sides, numbers and bytes. Bytes are numbers: 10 is a line feed, 13 a
+-- carriage return, 32 a space and 35 a number sign.
 use Rattle.std.specs.Prelude.{ℕ, ◌+◌, ◌-◌, ◌*◌, ◌^◌, ◌==◌, Bool, true, false, not, ◌&&◌, ◌||◌, Option, Some, None, Result, Ok, List, [], ◌∷◌, length, map, filter, nat_lt, nat_le, if◌then◌else◌}
 use Rattle.std.specs.List.{slice_split, list_all}
 use Rattle.std.specs.Result.{result_ok}
@@ -19,7 +19,7 @@ without_return [] = []
 without_return (b ∷ []) = if b == 13 then [] else b ∷ []
 without_return (b ∷ c ∷ bytes) = b ∷ without_return (c ∷ bytes)
 
--- the lines of a script: each ends with a line feed, which the last may lack
+-- the lines of a script: each but the last ends with a line feed, and the last may have no bytes
 abbrev pub lines_of : List ℕ → List (List ℕ)
 lines_of bytes = map without_return (slice_split (λ b. b == 10) bytes)
 

@@ -7,38 +7,43 @@ ghost use Rattle.script_words.specs.Tests as tests;
 use pair_settings::Range;
 use std::alloc::AllocError;
 
-/// Why a line of a script is refused. Within a line the first cause in the order of the tests is the one that is named:
-/// bytes that are no text; the header; the first word and the number of words; the other words from left to right, each
-/// one's spelling before what it names and its range; then the line as a whole.
+/// Why a line of a script is refused. Within a line the first cause in the order of the tests is the one that is named.
+/// The tests come in this order:
+///
+/// 1. whether the bytes are text,
+/// 2. the header,
+/// 3. the first word and the number of words,
+/// 4. the other words from left to right, each one's spelling before what it names and its range,
+/// 5. the line as a whole.
 #[derive(Clone, Copy, Debug, PartialEq, Eq)]
 pub enum Cause {
     /// A byte of the line is neither a printed character nor a space.
     NotText,
     /// Line 1 isn't `ntb 1`, or there is no byte at all.
     BadHeader,
-    /// The first word may not stand in this part of the script, the number of words isn't one that it takes, an
+    /// The first word may not stand in this part of the script, or the number of words isn't one that it takes. Or an
     /// option isn't known, or another word stands where `stop=` or `start=` has to.
     UnknownWord,
-    /// A number is misspelled, or outside its argument's range.
+    /// A number is misspelled. Or it is outside its argument's range, and isn't that of an option or of a threshold.
     BadNumber,
     /// A name or a side is misspelled.
     BadName,
-    /// A name of its kind, an option or a key stands twice, a pair names one host twice, a queue has a second device or a
-    /// second class, or a device is a port already.
+    /// A name of its kind, an option or a key stands twice, or a pair names one host twice. Or a queue has a second
+    /// device or a second class, or a device is a port already.
     Repeated,
-    /// A host, a pair, a device or a switch isn't declared, a queue isn't one of the side's, a window isn't one of both
-    /// sides', a port isn't one of the switch's, or a device is no port.
+    /// A host, a pair, a device or a switch isn't declared, a queue isn't one of the side's, or a window isn't one of
+    /// both sides'. Or a port isn't one of the switch's, or a device is no port.
     UnknownName,
     /// Bytes, an address or a kind are misspelled.
     BadHex,
-    /// The number of an option or of a device's threshold is outside its range, or the numbers of a pair, of a device or
-    /// of traffic don't go together.
+    /// The number of an option or of a device's threshold isn't one that it may have. Or the numbers of a pair, of a
+    /// device or of traffic don't go together.
     BadGeometry,
     /// A limit on hosts, pairs, devices, switches, steps, bytes of a frame or of a poke, or traffic is passed by this
     /// line.
     TooMany,
-    /// A poke, or a write of a scratchpad that the transport uses, on a pair that isn't raw; or traffic on a pair that may
-    /// have none.
+    /// A poke, or a write of a scratchpad that the transport uses, on a pair that isn't raw; or traffic on a pair that
+    /// may have none.
     BadPair,
     /// The devices of a switch aren't all on sides of one host.
     BadSwitch,
@@ -105,7 +110,8 @@ pub struct LineFault {
     pub word: u32,
     /// Why the line is refused.
     pub cause: Cause,
-    /// The range of the number that the word should spell, where it has one by itself.
+    /// The range of the number that the word should spell, where it has one by itself and the number isn't of it. Of an
+    /// option it stands with [`Cause::BadGeometry`] alone.
     pub range: Option<Range>,
 }
 
@@ -118,6 +124,10 @@ pub fn unknown_line() -> LineFault
 }
 
 /// What a word gives, or the fault at that word.
+///
+/// # Errors
+///
+/// The fault of the cause at the word, exactly where `given` is a cause.
 #[inline(always)]
 pub fn at<T>(word: u32, given: Result<T, Cause>) -> Result<T, LineFault>
     ensures { result ≡ tests.at word given }
@@ -129,6 +139,10 @@ pub fn at<T>(word: u32, given: Result<T, Cause>) -> Result<T, LineFault>
 }
 
 /// What a word gives that should spell a number of a range, or the fault at that word.
+///
+/// # Errors
+///
+/// The fault of the cause at the word, with the range, exactly where `given` is a cause.
 #[inline(always)]
 pub fn within<T>(word: u32, range: Range, given: Result<T, Cause>) -> Result<T, LineFault>
     ensures { result ≡ tests.within word range.least range.most given }

@@ -2,7 +2,8 @@
 //! for, and what one line gives.
 #![tactic(auto)]
 
-/// The value that stands beside a word in a table of words and values: `Some` of it, or `None` where the word isn't there.
+/// The value that stands beside a word in a table of words and values: `Some` of it, or `None` where the word isn't
+/// there.
 macro_rules! value_of {
     ($word:ident:) => { None };
     ($word:ident: $text:literal => $value:expr, $($rest:tt)*) => {

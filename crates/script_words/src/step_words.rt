@@ -10,7 +10,7 @@ use step_kinds::limits::MOST_STEPS;
 use step_kinds::{Side, Step};
 use step_list::{Macro, Repeated};
 
-/// The first word of a line that has a pair.
+/// The first word of a line that has a pair: `train`, `break`, `drop`.
 #[derive(Clone, Copy, Debug, PartialEq, Eq)]
 pub enum PairWord {
     Train,
@@ -130,7 +130,7 @@ pub fn frame_word_of(word: &[u8]) -> Option<FrameWord>
 }
 
 impl PairWord {
-    /// The step.
+    /// The step of the word on a pair.
     pub fn step(self, pair: u32) -> Step
         ensures { result ≡ pair_step_of self pair }
     {
@@ -143,7 +143,7 @@ impl PairWord {
 }
 
 impl SideWord {
-    /// The steps on a side with so many windows.
+    /// The steps of the word on a side with so many windows, at most 4.
     pub fn steps(self, windows: u32, pair: u32, side: Side) -> Macro
         requires { windows ≤ 4 }
         ensures { steps_of result ≡ side_steps_with self windows pair side }
@@ -166,7 +166,7 @@ impl SideWord {
 }
 
 impl QueueWord {
-    /// The steps.
+    /// The steps of the word on a queue.
     #[inline]
     pub fn steps(self, pair: u32, side: Side, queue: u32) -> Macro
         ensures { steps_of result ≡ queue_steps_of self pair side queue }
@@ -212,7 +212,7 @@ impl NumberWord {
         }
     }
 
-    /// The steps.
+    /// The steps of the word on a side, with the number.
     #[inline]
     pub fn steps(self, pair: u32, side: Side, number: u32) -> Macro
         ensures { steps_of result ≡ (numbered_of self).steps pair side number }

@@ -36,6 +36,10 @@ fn are_name_bytes(bytes: &[u8]) -> bool
 }
 
 /// The name that a word spells.
+///
+/// # Errors
+///
+/// [`Cause::BadName`] exactly where the word is no name, by [`is_name`].
 pub fn read_name(word: &[u8]) -> Result<Name, Cause>
     ensures { result ≡ spelled.name_word word.now }
 {
@@ -47,6 +51,10 @@ pub fn read_name(word: &[u8]) -> Result<Name, Cause>
 }
 
 /// The side that a word spells.
+///
+/// # Errors
+///
+/// [`Cause::BadName`] exactly where the word is neither `A` nor `B`.
 pub fn read_side(word: &[u8]) -> Result<Side, Cause>
     ensures { result ≡ spelled.side_word word.now }
 {
@@ -89,6 +97,11 @@ fn number_of(word: &[u8]) -> Option<u32>
 }
 
 /// The number that a word spells.
+///
+/// # Errors
+///
+/// [`Cause::BadNumber`] exactly where the word isn't decimal digits, at least one, without a leading zero but for zero
+/// itself, or their number isn't below 2^32.
 pub fn read_number(word: &[u8]) -> Result<u32, Cause>
     ensures { result ≡ spelled.number_word word.now }
 {
@@ -96,6 +109,10 @@ pub fn read_number(word: &[u8]) -> Result<u32, Cause>
 }
 
 /// The number that a word spells, from the least to the most.
+///
+/// # Errors
+///
+/// [`Cause::BadNumber`] exactly where [`read_number`] answers it, or the number is below `least` or above `most`.
 pub fn read_number_between(least: u32, most: u32, word: &[u8]) -> Result<u32, Cause>
     ensures { result ≡ spelled.number_between least most word.now }
 {
@@ -106,7 +123,12 @@ pub fn read_number_between(least: u32, most: u32, word: &[u8]) -> Result<u32, Ca
     Ok(number)
 }
 
-/// The number that word `n` of a line spells, from the least to the most. The fault tells the range.
+/// The number that word `n` of a line spells, from the least to the most.
+///
+/// # Errors
+///
+/// The fault of [`Cause::BadNumber`] at word `n`, with the range, exactly where [`read_number_between`] answers that
+/// cause.
 pub fn read_number_in(n: u32, least: u32, most: u32, word: &[u8]) -> Result<u32, LineFault>
     ensures { result ≡ spelled.number_in n least most word.now }
 {
@@ -118,6 +140,11 @@ pub fn read_number_in(n: u32, least: u32, most: u32, word: &[u8]) -> Result<u32,
 }
 
 /// The bytes that a word spells by pairs of hexadecimal digits.
+///
+/// # Errors
+///
+/// [`ReadError::OutOfMemory`] only when out of memory. Else [`ReadError::Fault`] of [`Cause::BadHex`] exactly where the
+/// word isn't pairs of hexadecimal digits.
 pub fn read_bytes(alloc: Global, word: &[u8]) -> Result<Items<u8>, ReadError>
     ensures { Reads result (spelled.hex_word word.now) }
 {
@@ -129,6 +156,11 @@ pub fn read_bytes(alloc: Global, word: &[u8]) -> Result<Items<u8>, ReadError>
 }
 
 /// The bytes that word `n` of a line spells.
+///
+/// # Errors
+///
+/// [`LineError::OutOfMemory`] only when out of memory. Else [`LineError::Fault`] of [`Cause::BadHex`] at word `n`
+/// exactly where the word isn't pairs of hexadecimal digits.
 #[inline(always)]
 pub fn read_bytes_at(alloc: Global, n: u32, word: &[u8]) -> Result<Items<u8>, LineError>
     ensures { ReadsLine result (tests.at n (spelled.hex_word word.now)) }
@@ -148,6 +180,10 @@ pub fn is_same_side(side: Side, other: Side) -> bool
 }
 
 /// The bytes that a word spells, of which there have to be so many. It takes no memory.
+///
+/// # Errors
+///
+/// [`Cause::BadHex`] exactly where the word isn't pairs of hexadecimal digits, or not `N` of them.
 pub fn read_array<const N: usize>(word: &[u8]) -> Result<[u8; N], Cause>
     ensures { result ≡ spelled.hex_of N word.now }
 {
@@ -159,6 +195,10 @@ pub fn read_array<const N: usize>(word: &[u8]) -> Result<[u8; N], Cause>
 }
 
 /// The number of two bytes that a word spells, the high one first.
+///
+/// # Errors
+///
+/// [`Cause::BadHex`] exactly where the word isn't two pairs of hexadecimal digits.
 pub fn read_kind(word: &[u8]) -> Result<u16, Cause>
     ensures { result ≡ spelled.kind_word word.now }
 {

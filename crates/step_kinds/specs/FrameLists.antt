@@ -1,4 +1,4 @@
--- Lists of frames with promised room, and what the record of a threaded run says by them.
+-- Lists of frames with promised room.
 use Rattle.std.specs.Prelude.{◌≡◌, ℕ, ◌+◌, ◌-◌, List, [], ◌∷◌, ◌++◌, length, min, drop}
 
 -- the frames, each a list of bytes, and how many more can be put in without asking for memory

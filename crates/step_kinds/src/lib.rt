@@ -1,8 +1,8 @@
-//! The plain types of ntbsim's surface: sides and lanes, frames and names, the steps of a script and their answers,
-//! the plan that a script declares and the record of a threaded run; and the surface's limits.
+//! The plain types of ntbsim's surface: sides and lanes, frames and names, the steps of a script and their answers.
+//! The crate also has the plan that a script declares, the record of a threaded run, and the surface's limits.
 //!
-//! Contracts see a [`Frame`], a [`Name`] and what is kept [`InPlace`] as their lists of bytes, [`Items`] as a list, and a
-//! [`FrameList`] as a list of frames and the number of frames for which room is promised.
+//! Contracts see a [`Frame`], a [`Name`] and what is kept [`InPlace`] as their lists of bytes, and [`Items`] as a list.
+//! They see a [`FrameList`] as a list of frames and the number of frames for which room is promised.
 #![tactic(auto)]
 
 mod frame;

@@ -1,4 +1,4 @@
-//! Sides of a pair, names of hosts, pairs and devices, and names of lanes.
+//! Sides of a pair, names of hosts, pairs, devices and switches, and names of lanes.
 
 ghost use Rattle.std.specs.Prelude.{◌≡◌, ◌≤◌, length};
 ghost use Rattle.step_kinds.specs.Sides.{other_side};

@@ -1,7 +1,7 @@
 //! Which part of its pair a step touches, and what it does there.
 //!
-//! What makes steps of one part is handed these alone, and matches them whole. Frames and addresses are borrowed from the
-//! step, so that none is copied.
+//! What makes steps of one part is handed these alone, and matches them whole. Frames and addresses are borrowed from
+//! the step, so that none is copied.
 
 ghost use Rattle.std.specs.Prelude.{◌≡◌};
 ghost use Rattle.step_kinds.specs.Places.{by_value, step_place};
@@ -167,7 +167,8 @@ pub enum StepPlace<'a> {
     OnBridge {
         step: BridgeStep<'a>,
     },
-    /// No part of a pair: a switch makes the step, above all pairs.
+    /// No part of a pair: a switch makes the step, above all pairs. The frame that [`Step::Xnext`] sends is begun on a
+    /// queue as by [`Step::Begin`].
     OnSwitch {
         step: SwitchStep,
     },

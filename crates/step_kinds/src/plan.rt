@@ -1,4 +1,4 @@
-//! What a script declares: hosts in pairs, devices, the steps of a replay and the traffic of a threaded run.
+//! What a script declares: hosts in pairs, devices, switches, the steps of a replay and the traffic of a threaded run.
 
 use crate::frame::Frame;
 use crate::items::Items;
@@ -32,7 +32,8 @@ pub struct PairPlan {
     pub a: SidePlan,
     /// Side B, of the second host.
     pub b: SidePlan,
-    /// The largest transfer unit in bytes, 16 to 65,536: no entry of a ring is longer.
+    /// The largest transfer unit in bytes, 16 to 65,536, and 20 at least where a side has version 5: no entry of a ring
+    /// is longer.
     pub mtu: u32,
     /// Whether the pair starts with its link up, as after a whole handshake.
     pub up: bool,
@@ -61,9 +62,9 @@ pub struct DevPlan {
     pub queue: u32,
     /// Its Ethernet address, the six bytes as they are sent.
     pub address: [u8; 6],
-    /// The device stops where fewer entries of its ring than these are free: 0 to 65,535.
+    /// The device stops after a frame of its own that leaves fewer entries of its ring free than these: 0 to 65,535.
     pub stop: u32,
-    /// The device wakes where at least these entries are free: at least `stop`, at most 65,535.
+    /// The device can wake where at least these entries are free: at least `stop`, at most 65,535.
     pub start: u32,
 }
 
@@ -72,7 +73,8 @@ pub struct DevPlan {
 pub struct SwitchPlan {
     /// The switch's name.
     pub name: Name,
-    /// The numbers of the devices that are its ports, 2 to 16 of them. The ports are numbered from 0 in their order here.
+    /// The numbers of the devices that are its ports, 2 to 16 of them. The ports are numbered from 0 in their order
+    /// here.
     pub ports: Items<u32>,
 }
 
@@ -101,7 +103,7 @@ pub enum Traffic {
     Send {
         /// The lane.
         lane: LaneName,
-        /// The frame, of at least one byte.
+        /// The frame, of at least one byte and at most the payload of one entry.
         frame: Frame,
     },
     /// One loss of a pair's link.
@@ -129,11 +131,11 @@ pub struct Plan {
 /// The counters of a network device (`ntb_netdev` keeps the same in its statistics).
 #[derive(Clone, Copy, Debug, PartialEq, Eq)]
 pub struct Counters {
-    /// Frames that were taken to be sent.
+    /// The device's own frames that were taken to be sent: those of [`Step::Xnext`] aren't counted.
     pub tx: u64,
     /// The bytes of these frames.
     pub tx_bytes: u64,
-    /// Frames that were refused.
+    /// The device's own frames that were refused.
     pub refused: u64,
     /// Frames of at least 14 bytes that were delivered.
     pub rx: u64,

@@ -7,7 +7,8 @@ use crate::frame::Frame;
 use crate::names::Side;
 
 /// What a posted write in flight writes. `queue` is the number of a queue of the writer, `number` the number of an
-/// entry of the ring in this link session, both from 0. The fields of a header and the index word are little-endian.
+/// entry of the ring in this link session, both from 0. The fields of a header and the index word are little-endian. On
+/// a strict pair each write is strict.
 ///
 /// The names are those of `ntb_transport`: a header has a version, a length and flags, and the index word is what the
 /// receiver writes back. Their layout is this project's own.
@@ -134,7 +135,7 @@ pub enum Step {
         side: Side,
         queue: u32,
     },
-    /// The side copies the next 128 bytes of the entry that it found.
+    /// The side copies the next 128 bytes of the entry that it found, or what is left of it.
     Copy {
         pair: u32,
         side: Side,
@@ -222,9 +223,9 @@ pub enum Step {
         /// The place, 0 for the write that was posted first.
         place: u32,
     },
-    /// A switch takes the first frame that arrived on one of its ports, and puts it where its destination is: among the
-    /// frames that wait on one other port, or on all others. The pair, the side and the queue are those of the port's
-    /// device.
+    /// A switch takes the first frame that arrived on one of its ports, and puts it where its destination is. The frame
+    /// then waits on one other port or on all others, or it was dropped. The pair, the side and the queue are those of
+    /// the port's device.
     Relay {
         pair: u32,
         side: Side,
@@ -234,8 +235,8 @@ pub enum Step {
         /// The number of the port, from 0 in the order in which the switch names its devices.
         port: u32,
     },
-    /// A device that is a port of a switch begins to send the first frame that waits on its port. The pair, the side and
-    /// the queue are the device's.
+    /// A device that is a port of a switch begins to send the first frame that waits on its port. The pair, the side
+    /// and the queue are the device's.
     Xnext {
         pair: u32,
         side: Side,
@@ -284,15 +285,15 @@ impl Step {
     }
 }
 
-/// The answer to a step. `number` is the number of a frame or link-down entry in this link session, from 0; `seen` is
-/// what was read and `own` what the side itself has there.
+/// The answer to a step. `number` counts from 0 in this link session: frames in [`Answer::OkNumber`] and
+/// [`Answer::Delivered`], else entries of the ring. `seen` is what was read and `own` what the side itself has there.
 #[derive(Drop)]
 pub enum Answer {
     /// The step was made.
     Ok,
     /// The link is up in this session, 1 to 65,535.
     OkSession { session: u32 },
-    /// The frame or link-down entry was begun and has this number.
+    /// The frame was begun and has this number. Of a link-down entry it is the number of frames that were begun before.
     OkNumber { number: u64 },
     /// The link isn't down.
     NotDown,
@@ -308,15 +309,16 @@ pub enum Answer {
     NotClosing,
     /// The link isn't up, so the step can't be made.
     LinkDown,
-    /// The step was made before in this session.
+    /// The step was made before in this session, or an offer was posted whole. A pair that starts up counts as after a
+    /// whole handshake.
     Already,
-    /// The scratchpad of this number, 0 to 15, was posted: for each window the high half of its size at 4 and every
-    /// second one from there, and the low half after it; then the number of windows at 3, that of queues at 2 and the
-    /// version at 0.
+    /// The scratchpad of this number, 0 to 15, was posted. First come for each window the high half of its size, at 4
+    /// and every second one from there, and the low half after it. Then come the number of windows at 3, that of queues
+    /// at 2 and the version at 0.
     Offered { index: u32 },
-    /// The peer has not said so yet.
+    /// The peer's version, or its word that the queue is ready, has not landed yet.
     NotYet,
-    /// The peer speaks another version.
+    /// The peer has another version, and one of the two is below 4.
     Version { seen: u32, own: u32 },
     /// The peer has another number of queues.
     Queues { seen: u32, own: u32 },
@@ -337,11 +339,12 @@ pub enum Answer {
     Closed,
     /// The frame is longer than the longest that the queue sends, both in bytes.
     TooLong { len: u32, max: u32 },
-    /// An entry of the lane has writes left to post.
+    /// What was begun on the lane before has writes left to post.
     Busy,
     /// The device is stopped.
     Stopped,
-    /// The ring has no room: the slot of the next entry and the index word, both below the entries of the ring.
+    /// The ring has no room: the slot of the next entry, and the index word. Both are below the entries of the ring,
+    /// but for the index word of a raw pair, which may be any number.
     Again { head: u32, tail: u32 },
     /// Nothing is left to post.
     Idle,
@@ -361,11 +364,13 @@ pub enum Answer {
     PeerDown,
     /// The header's version isn't the number of the next entry modulo 2^32. On raw pairs alone.
     VerDiffers { seen: u32, own: u32 },
-    /// The header's length is above the largest payload, both in bytes. On raw pairs alone.
+    /// The header's length is above the largest payload, or with what was copied of its frame above the longest frame.
+    /// Both are in bytes. On raw pairs alone.
     Long { len: u32, max: u32 },
     /// An entry stands at the front of the ring: its number and the bytes of its payload.
     ReadyFrame { number: u64, len: u32 },
-    /// The part of this number was copied, 128 bytes from 128 times `part` on, and more of the frame is left.
+    /// The part of this number was copied, and more of the frame is left. It is the entry's bytes from 128 times `part`
+    /// on, at most 128.
     Copied { number: u64, part: u32 },
     /// The last part was copied: the whole frame.
     Delivered { number: u64, frame: Frame },

@@ -43,8 +43,8 @@ pub enum Stretch {
     },
 }
 
-/// Steps with their lines, macros as the lines have them: a step that a line repeats takes no more room than one. Contracts
-/// see the list of all steps.
+/// Steps with their lines, macros as the lines have them: a step that a line repeats takes no more room than one.
+/// Contracts see the list of all steps.
 #[derive(Drop)]
 pub struct StepList {
     stretches: Vec<Stretch>,
@@ -69,8 +69,8 @@ impl StepList {
         &self.stretches
     }
 
-    /// Adds a step of line `line`, in a box: one that a line may repeat is better pushed as a [`Macro`]. The only error is
-    /// running out of memory, and then nothing is added.
+    /// Adds a step of line `line`, in a box: one that a line may repeat is better pushed as a [`Macro`]. The only error
+    /// is running out of memory, and then nothing is added.
     pub fn push_step(&mut self, line: u32, step: Step) -> Result<(), AllocError>
         ensures ok { OnOk result (self.new ≡ self.old ++ lines_with line (step ∷ [])) }
         ensures err { OnErr result (self.new ≡ self.old) }

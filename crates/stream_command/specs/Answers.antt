@@ -11,7 +11,8 @@ use Rattle.table_lane.specs.EndOfLane.{Shown}
 use Rattle.traffic_plan.specs.Lanes.{frames_on}
 use Rattle.stream_command.specs.Text.{streams_text}
 
--- what comes with the text of the command: the record of the streams, where it is that of one, and the proofs of its sessions
+-- what comes with the text of the command: the record of the streams, where it is that of one, and the proofs of its
+-- sessions
 pub record Streamed : Type 0 where
   pub streams : Option (List StreamShown)
   pub proofs : List Shown

@@ -34,10 +34,10 @@ pub struct StreamReply {
 
 /// The reply of `stream` to a script of at most 16,777,216 bytes. Where it declares a plan, threads send the plan's
 /// traffic as resumable streams. The reply is then the text of the record of that, with status 0, beside the record and
-/// its proofs; else it is the first line with a fault, with status 3. The only error is running out of memory.
+/// its proofs. Else it says the first line with a fault, with status 3. The only error is running out of memory.
 ///
-/// Each worker passes the gate before each of its turns. The gate has to let all workers with numbers below 524,280 pass,
-/// before each turn with a number below 2^64.
+/// Each worker passes the gate before each of its turns. The gate has to let all workers with numbers below 524,280
+/// pass, before each turn with a number below 2^64.
 pub fn stream_reply<R: Threads + Wait + Sync, G: Gate>(
     rt: &R,
     alloc: Global,

@@ -13,7 +13,7 @@ use Rattle.stream_model.specs.declared.Session.TheVariants.{Fresh}
 use Rattle.stream_model.specs.declared.StreamEvent.{StreamEvent}
 use Rattle.stream_model.specs.declared.StreamEvent.TheVariants.{GiveBack, Lose}
 
--- a number of four bytes says how many items there are
+-- there are fewer than 2^32 - 1 items, so that a number of four bytes says how many
 abbrev pub CanSend : List (List ℕ) → Type 0
 CanSend items = length items < most_items
 
@@ -63,13 +63,13 @@ BackIsUngiven = (sender : Sender) → given_back (one_given sender) ≡ record s
 abbrev pub NoneIsAll : Type 0
 NoneIsAll = (sender : Sender) → next_frame sender ≡ None → given_by sender ≡ frames_of sender
 
--- acknowledgements of what was given: the largest counts
+-- acknowledgements of what was given, which is fewer than 2^32 - 1 items: the largest counts
 abbrev pub LargestCounts : Type 0
 LargestCounts = (sender : Sender) (frames : List (List ℕ)) → sender.place.ever < most_items → All (SaysAtMost sender.place.ever) frames
     → (fold ack_taken sender frames).acked ≡ max sender.acked (largest_in frames)
 
--- a receiver that keeps the first items, and gets the front of a session that starts at one of them, keeps the first
--- items again, no fewer, and each that it got
+-- A receiver that keeps the first items gets, as the first frames of its session, the front of a session that starts at
+-- no more than it keeps. It keeps the first items again, no fewer, and each that it got.
 abbrev pub FrontIsKept : Type 0
 FrontIsKept = (items : List (List ℕ)) (receiver : Receiver) (start : ℕ) (got : List (List ℕ))
     → CanSend items → Begins receiver.items items → receiver.session ≡ Fresh → start ≤ length receiver.items → Begins got (session_frames items start)

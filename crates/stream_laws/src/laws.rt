@@ -4,8 +4,8 @@
 
 ghost use Rattle.stream_laws.specs.Laws.{AllIsBrought, BackIsUngiven, EveryWorldIsOrdered, FrontIsKept, LargestCounts, NextFollows, NoAnswerIsBad, NoneIsAll, SessionsGrow, SessionsKeepFront, WholeSessionBringsAll};
 
-/// After every list of events the receiver's items are a prefix of all items, each once, and the acknowledged number is
-/// at most the number of items that the receiver keeps. Premise: few enough items.
+/// After every list of events the receiver's items are a prefix of all items, each once. The acknowledged number is at
+/// most the number of items that the receiver keeps. Premise: few enough items.
 pub fn every_world_is_ordered()
     ensures { EveryWorldIsOrdered }
 {}
@@ -37,20 +37,22 @@ pub fn none_is_all()
     ensures { NoneIsAll }
 {}
 
-/// After acknowledgements the acknowledged number is the largest of theirs and the one before. Premise: each says at
-/// most the number of items that were ever given.
+/// After acknowledgements the acknowledged number is the largest of theirs and the one before. Premises: few enough
+/// items were ever given, and each acknowledgement says at most their number.
 pub fn largest_counts()
     ensures { LargestCounts }
 {}
 
-/// A receiver that keeps the first items, and gets the front of a session that starts at one of them, keeps the first
-/// items again: no fewer, and each that it got. Premise: few enough items.
+/// A receiver that keeps the first items, and gets the front of a session, keeps the first items again: no fewer, and
+/// each that it got. Premises: few enough items, it has taken no frame of its session before, and the session starts at
+/// no more than it keeps.
 pub fn front_is_kept()
     ensures { FrontIsKept }
 {}
 
-/// Sessions of a stream and one more are sessions of the stream. Premises: what the one more was given begins the frames
-/// of a session that starts at what the others acknowledged, and its acknowledgements say at most what is kept.
+/// Sessions of a stream and one more are sessions of the stream. Premises: what the one more was given begins the
+/// frames of a session that starts at what the others acknowledged. Its acknowledgements say at most what is kept by
+/// its end.
 pub fn sessions_grow()
     ensures { SessionsGrow }
 {}

@@ -36,7 +36,8 @@ Lost =
     ≡ Gave (Some (number 0)) ∷ Gave (Some a) ∷ Took Start ∷ Took (Kept 0)
     ∷ Gave (Some (number 0)) ∷ Gave (Some a) ∷ Gave (Some b) ∷ Gave None ∷ Took Start ∷ Took (Old 0) ∷ Took (Kept 1) ∷ [])
 
--- the acknowledgement of `a` comes before the loss: the second session starts at 1; the same acknowledgement is old later
+-- the acknowledgement of `a` comes before the loss: the second session starts at 1; the same acknowledgement is old
+-- later
 abbrev pub acked : List StreamEvent
 acked = Next ∷ Next ∷ Carry ∷ Carry ∷ Ack ∷ CarryAck ∷ Lose ∷ Ack ∷ CarryAck ∷ Next ∷ Next ∷ Next ∷ Carry ∷ Carry ∷ []
 

@@ -32,9 +32,9 @@ abbrev pub acked_by : List Exchange → ℕ
 acked_by [] = 0
 acked_by (session ∷ sessions) = max (largest_in session.acks_got) (acked_by sessions)
 
--- In each session the item lane was given a part, from the front, of the frame of the number that was acknowledged in the
--- sessions before it and the items from there on; and each acknowledgement says at most how many items are kept by the
--- session's end.
+-- In each session the item lane was given a part, from the front, of the session's frames. These are the frame of the
+-- number that was acknowledged in the sessions before it, and the items from there on. Each acknowledgement says at
+-- most how many items are kept by the session's end.
 pub record AreSessionsOf (items : List (List ℕ)) (sessions : List Exchange) : Type 0 where
   pub sent : (k : ℕ) → k < length sessions → Begins (session_at sessions k).sent (session_frames items (acked_by (take k sessions)))
   pub acks : (k : ℕ) → k < length sessions → All (SaysAtMost (length (kept_by (take (k + 1) sessions)))) (session_at sessions k).acks_sent

@@ -6,8 +6,9 @@ use Rattle.stream_model.specs.declared.Place.{Place}
 use Rattle.stream_model.specs.declared.AckAnswer.{AckAnswer}
 use Rattle.stream_model.specs.declared.AckAnswer.TheVariants.{Newer, Old, Bad}
 
--- All items; how many were acknowledged; the number at which this session starts; how far the sender is; and how far it
--- was before it gave a frame, where that was its last change. A frame can be given back exactly in that last case.
+-- All items, how many were acknowledged, the number at which this session starts, and how far the sender is. Where its
+-- last change was that it gave a frame, `before` is how far it was before. A frame can be given back exactly in that
+-- case.
 pub record Sender : Type 0 where
   pub items : List (List ℕ)
   pub acked : ℕ

@@ -7,7 +7,8 @@ use Rattle.stream_model.specs.declared.TakeAnswer.{TakeAnswer}
 use Rattle.stream_model.specs.declared.StreamEvent.{StreamEvent}
 use Rattle.stream_model.specs.declared.StreamEvent.TheVariants.{Next, GiveBack, Carry, Ack, CarryAck, Lose}
 
--- one direction in this session: the frames that were given to it, and how many of them, from the first on, were carried
+-- one direction in this session: the frames that were given to it, and how many of them, from the first on, were
+-- carried
 pub record Wire : Type 0 where
   pub given : List (List ℕ)
   pub carried : ℕ

@@ -1,17 +1,18 @@
 //! The model of a resumable stream: a sending end and a receiving end that carry a list of items over any number of
-//! sessions, each of which may be lost with what was on its way; and the world of two such ends. `stream_laws` has the
-//! laws of both.
+//! sessions. Each session may be lost with what was on its way. The model also has the world of two such ends.
+//! `stream_laws` has the laws of the ends and of the world.
 //!
-//! In each session the sender first gives a frame of four bytes, the number of items that the receiver acknowledged,
-//! and then the items from that number on. The receiver drops items that it has, keeps the next one, and acknowledges
-//! by a frame of four bytes, the number of items that it keeps. All numbers of four bytes have the lowest byte first.
+//! In each session the sender first gives a frame of four bytes, the number of items that were acknowledged when the
+//! session began. Then it gives the items from that number on. The receiver drops items that it has, keeps the next
+//! one, and acknowledges by a frame of four bytes, the number of items that it keeps. All numbers of four bytes have
+//! the lowest byte first.
 //!
 //! This crate has definitions alone, over lists and numbers, and the plain types that the ends share.
 #![tactic(auto)]
 
 pub mod examples;
 
-/// How far a sender is.
+/// How far a sender is. A frame that was given back counts as not given.
 #[derive(Clone, Copy, Debug, PartialEq, Eq)]
 pub struct Place {
     /// The frames that it gave in this session: 0 before the session's first frame, which is no item, was given.
@@ -40,8 +41,8 @@ pub enum TakeAnswer {
     Kept { number: u32 },
     /// It is the item of this number, which the receiver has. It was dropped.
     Old { number: u32 },
-    /// It is the first frame of its session and hasn't four bytes or says a number above the number of items that are
-    /// kept; or it came after such a frame in the same session. It was dropped.
+    /// It is the first frame of its session, and hasn't four bytes or says a number above the number of items that are
+    /// kept. Or it came after such a frame in the same session. It was dropped.
     Bad,
 }
 

@@ -101,7 +101,8 @@ no_link_down Dropped = refl
 no_link_down (ToPort port) = refl
 no_link_down (ToOthers count) = refl
 
--- A step is answered `linkdown` exactly where it needs a link that its pair's last link step left not up.
+-- A step is answered `linkdown` exactly where it needs a link that isn't up, by the last link step of its pair that
+-- wasn't refused, or by the plan.
 pub items_link_down_where_not_up : ItemsLinkDownWhereNotUp
 items_link_down_where_not_up plan memories steps step =
     each_item plan memories (network_of plan memories steps) IsRight (λ pair side queue switch port answer. no_link_down answer) (λ pair side queue dev. refl)

@@ -1,5 +1,5 @@
--- What a network keeps of the frames between two lanes. Of the frames that were delivered on the first lane, those that passed to
--- the second, then those that wait there, then those that arrived are a part of the deliveries, in their order.
+-- What a network keeps of the frames delivered on the first of two lanes: those that passed to the second, then those
+-- that wait there, then those that arrived. They are a part of the deliveries, in their order.
 use Rattle.std.proofs.Common.{◌≡◌, Bool, true, false, List, [], ◌∷◌, ◌++◌, Option, Some, None, map, sym, ap, ◌∙◌, subst, inl, inr, append_assoc}
 use Rattle.std.specs.Prelude.{◌&&◌, if◌then◌else◌}
 use Rattle.std.specs.List.{filter}

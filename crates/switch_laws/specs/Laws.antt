@@ -45,7 +45,8 @@ LogReadsAsBridges = (plan : Plan) (log : List Answered) → ReadsAlike plan log 
 
 -- The laws of pairs
 
--- what was delivered on a lane of an ordinary pair in a session is a prefix of what was accepted there, numbered from 0 on in both
+-- what was delivered on a lane of an ordinary pair in a session is a prefix of what was accepted there, numbered from 0
+-- on in both
 abbrev pub FramesComeInOrder : Type 0
 FramesComeInOrder = (plan : Plan) (memories : Memories) (steps : List Step) (lane : LaneName) (session : ℕ) →
     IsOrdinaryPair plan lane.pair → IsInOrder plan (switch_log plan memories steps) lane session
@@ -63,7 +64,8 @@ item_after plan memories steps step = next_item bytes_kept plan memories (networ
 abbrev pub bridge_ledger : Plan → Memories → List Step → Ledger
 bridge_ledger plan memories steps = ledger_of plan memories (bridge_steps plan memories steps)
 
--- an item that begins entries has `again` exactly where it isn't refused for another reason, and the ring has less room than it needs
+-- an item that begins entries has `again` exactly where it isn't refused for another reason, and the ring has less room
+-- than it needs
 abbrev pub ItemsAgainWhereNoRoom : Type 0
 ItemsAgainWhereNoRoom = (plan : Plan) (memories : Memories) (steps : List Step) (step : Step) (lane : LaneName) →
     let made = item_after plan memories steps step in
@@ -72,7 +74,8 @@ ItemsAgainWhereNoRoom = (plan : Plan) (memories : Memories) (steps : List Step) 
     ≡ (not (refused_earlier plan (bridge_ledger plan memories steps lane.pair) made.step)
     && nat_lt (room_in plan (switch_log plan memories steps) lane) (entries_needed plan lane made.step))
 
--- an item has `linkdown` exactly where it needs a link, and the last link step of its pair left it not up
+-- An item has `linkdown` exactly where it needs a link that isn't up. The last link step of its pair that wasn't
+-- refused says so, and the plan where there is none.
 abbrev pub ItemsLinkDownWhereNotUp : Type 0
 ItemsLinkDownWhereNotUp = (plan : Plan) (memories : Memories) (steps : List Step) (step : Step) →
     let made = item_after plan memories steps step in

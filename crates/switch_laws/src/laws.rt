@@ -1,5 +1,5 @@
-//! The laws of every log of a plan with switches, each the clause of a function with an empty body: it holds of every
-//! plan, every list of steps and whatever the memories show, but for the premises that a law's text names.
+//! The laws of every log of a plan with switches, each the clause of a function with an empty body. A law holds of
+//! every plan, every list of steps and whatever the memories show, but for the premises that its text names.
 
 ghost use Rattle.switch_laws.specs.Laws.{
   BridgesHaveALog,
@@ -16,8 +16,8 @@ ghost use Rattle.switch_laws.specs.Laws.{
 };
 ghost use Rattle.switch_laws.specs.Paths.{PathsKeepOrder};
 
-/// The frames of a path, which were delivered on the last of some lanes and came by way of all of them, have the bytes
-/// that were accepted and delivered on the first. No origin stands twice, and origins rise by session and number.
+/// The frames of a path have the bytes that were accepted and delivered on the first of its lanes. They were delivered
+/// on the last, and came by way of all of them. No origin stands twice, and origins rise by session and number.
 /// Premise: the lanes' pairs are ordinary, that is, not declared `raw`.
 pub fn paths_keep_order()
     ensures { PathsKeepOrder }
@@ -53,13 +53,13 @@ pub fn frames_come_once()
 {}
 
 /// An item that begins entries is answered `again` exactly where it isn't refused for another reason and the room is
-/// less than it needs; an `xnext` that begins a frame is such an item. Premise: the pair is ordinary.
+/// less than it needs. An `xnext` that begins a frame is such an item. Premise: the pair is ordinary.
 pub fn items_again_where_no_room()
     ensures { ItemsAgainWhereNoRoom }
 {}
 
-/// An item that needs the link is answered `linkdown` exactly where the last link step of the pair that wasn't refused
-/// left it not up, and no other item is. No premise.
+/// An item that needs the link is answered `linkdown` exactly where the link isn't up, and no other item is. The last
+/// link step of the pair that wasn't refused says so, and the declaration where there is none. No premise.
 pub fn items_link_down_where_not_up()
     ensures { ItemsLinkDownWhereNotUp }
 {}
@@ -70,8 +70,8 @@ pub fn pairs_without_ports_are_separate()
     ensures { PairsWithoutPortsAreSeparate }
 {}
 
-/// Where each frame in a switch has its origin, each step is answered as where it is its bytes alone, and the network
-/// comes to the same but for the origins. No premise.
+/// Where each frame in a switch has its origin, each step is answered as where it is its bytes alone. The network comes
+/// to the same then, but for the origins. No premise.
 pub fn origins_change_nothing()
     ensures { OriginsChangeNothing }
 {}
@@ -81,7 +81,7 @@ pub fn waiting_have_headers()
     ensures { WaitingHaveHeaders }
 {}
 
-/// Where each waiting frame has at least 14 bytes, it is so after each step. No premise.
+/// Where each waiting frame of a network has at least 14 bytes, it is so after each step. No other premise.
 pub fn headers_stay()
     ensures { HeadersStay }
 {}

@@ -9,7 +9,8 @@ use Rattle.ledger_model.specs.Log.{Answered, Memories}
 use Rattle.switch_log.specs.Network.{Network, items_from, network_from, new_network, next_item}
 use Rattle.switch_log.specs.Origins.{Carried, bytes_kept, origins_kept}
 
--- The log of a list of steps has one item for each. An `xnext` at whose port a frame waits stands in it as the `begin` that it is.
+-- The log of a list of steps has one item for each. An `xnext` at whose port a frame waits stands in it as the `begin`
+-- that it is.
 abbrev pub switch_log : Plan → Memories → List Step → List Answered
 switch_log plan memories steps = items_from bytes_kept plan memories (new_network plan) steps
 

@@ -1,5 +1,5 @@
--- A network: the bridges of a plan and its switches. One fold over the plan's steps says what each comes to, where frames in
--- switches are kept in one way or another.
+-- A network: the bridges of a plan and its switches. One fold over the plan's steps says what each comes to, where
+-- frames in switches are kept in one way or another.
 use Rattle.std.specs.Prelude.{ℕ, ◌+◌, List, [], ◌∷◌, ◌++◌, Option, Some, None, count_by}
 use Rattle.step_kinds.specs.Sides.{other_side}
 use Rattle.step_kinds.specs.declared.names.LaneName.{LaneName}
@@ -30,7 +30,7 @@ new_network plan = record { steps = []; switches = new_switches plan; passages =
 pub data Action (F : Type 0) : Type 0 where
   -- a switch relays the first frame that arrived on a port
   Relays : Port → Action F
-  -- no frame waits to be sent
+  -- no frame waits to be sent, or no port is there
   Rests : Action F
   -- the first frame that waits at a port is sent on a lane
   Sends : Port → LaneName → F → Action F

@@ -33,7 +33,8 @@ leads lane begun passage = same_lane passage.frame.origin.lane lane && same_orig
 abbrev pub gone_back : List (Passage Carried) → LaneName → Carried → Option Carried
 gone_back passages lane frame = option_map (λ passage. record frame { origin = passage.frame.origin }) (find (leads lane frame.origin) passages)
 
--- the frames delivered on the last of these lanes whose origins go back through just these to the first, each with its origin there
+-- the frames delivered on the last of these lanes whose origins go back through just these to the first, each with its
+-- origin there
 abbrev pub path_back : (LaneName → List Carried) → List (Passage Carried) → LaneName → List LaneName → List Carried
 path_back delivered passages lane [] = delivered lane
 path_back delivered passages lane (next ∷ others) = filter_map (gone_back passages lane) (path_back delivered passages next others)

@@ -5,7 +5,8 @@ use Rattle.switch_model.specs.Fdb.{AreBelow, learned, lookup, most_stations, onc
 use Rattle.switch_model.specs.Switch.{flooded, list_of}
 use Rattle.switch_model.specs.declared.Station.{Station}
 
--- a station that was learned is on the port on which it was seen last, where it was known or there was room
+-- a station that was learned is on the port on which it was seen last, where it was known or there was room; else it
+-- isn't known
 abbrev pub LearnedIsFound : Type 0
 LearnedIsFound = (fdb : List Station) (a : List ℕ) (port : ℕ) → lookup (learned fdb a port) a ≡ once_learned (nat_lt (length fdb) most_stations) (lookup fdb a) port
 
@@ -13,15 +14,15 @@ LearnedIsFound = (fdb : List Station) (a : List ℕ) (port : ℕ) → lookup (le
 abbrev pub OthersStay : Type 0
 OthersStay = (fdb : List Station) (a : List ℕ) (port : ℕ) (other : List ℕ) → bytes_eq other a ≡ false → lookup (learned fdb a port) other ≡ lookup fdb other
 
--- there are never more stations than the most
+-- learning keeps the stations at the most or fewer
 abbrev pub StationsAreFew : Type 0
 StationsAreFew = (fdb : List Station) (a : List ℕ) (port : ℕ) → length fdb ≤ most_stations → length (learned fdb a port) ≤ most_stations
 
--- each station is on a port of the switch, and stays so
+-- where each station is on a port of the switch, this holds after learning one on a port of the switch
 abbrev pub PortsAreBelow : Type 0
 PortsAreBelow = (ports : ℕ) (fdb : List Station) (a : List ℕ) (port : ℕ) → AreBelow ports fdb → port < ports → AreBelow ports (learned fdb a port)
 
--- a lookup gives a port of the switch
+-- where each station is on a port of the switch, a lookup gives a port of the switch, if any
 abbrev pub FoundIsBelow : Type 0
 FoundIsBelow = (ports : ℕ) (fdb : List Station) (a : List ℕ) → AreBelow ports fdb → IfSome (lookup fdb a) (λ port. port < ports)
 
@@ -30,6 +31,6 @@ abbrev pub FloodReachesOthers : Type 0
 FloodReachesOthers =
     (frame : List ℕ) (lists : List (List (List ℕ))) (port other : ℕ) → other < length lists → (¬ (other ≡ port)) → list_of (flooded lists port frame) other ≡ list_of lists other ++ frame ∷ []
 
--- and leaves the list of its own port
+-- and the list of its own port stays as it is
 abbrev pub FloodSparesItsPort : Type 0
 FloodSparesItsPort = (frame : List ℕ) (lists : List (List (List ℕ))) (port : ℕ) → list_of (flooded lists port frame) port ≡ list_of lists port

@@ -3,7 +3,7 @@
 ghost use Rattle.switch_model.specs.Laws.{FloodReachesOthers, FloodSparesItsPort, FoundIsBelow, LearnedIsFound, OthersStay, PortsAreBelow, StationsAreFew};
 
 /// A station that was learned is on the port on which it was seen last, where it was known before or fewer than 256
-/// stations were.
+/// stations were. Else it isn't known after it either.
 pub fn learned_is_found()
     ensures { LearnedIsFound }
 {}
@@ -23,7 +23,7 @@ pub fn ports_are_below()
     ensures { PortsAreBelow }
 {}
 
-/// Where each station is on a port of the switch, a lookup gives a port of the switch.
+/// Where each station is on a port of the switch, a lookup gives a port of the switch, if any.
 pub fn found_is_below()
     ensures { FoundIsBelow }
 {}
@@ -33,7 +33,7 @@ pub fn flood_reaches_others()
     ensures { FloodReachesOthers }
 {}
 
-/// A flooded frame leaves the waiting frames of the port that it came from.
+/// A flood leaves the waiting frames of the port that the frame came from as they are.
 pub fn flood_spares_its_port()
     ensures { FloodSparesItsPort }
 {}

@@ -1,5 +1,6 @@
 //! The model of a learning switch, as a Linux bridge is one: ports with frames that arrived and frames that wait, and a
-//! forwarding database (*fdb*) of the stations that were seen, each with the port on which it was seen last.
+//! forwarding database (*fdb*). The database has the stations that were seen, each with the port on which it was seen
+//! last.
 //!
 //! This crate has definitions alone, over lists and numbers, and the laws of them. A frame is of any type, with a
 //! function that gives its bytes, so that a law can let frames carry where they came from.
@@ -24,11 +25,11 @@ pub enum RelayAnswer {
     Nothing,
     /// The frame has `len` bytes, fewer than the 14 of an Ethernet header. It was dropped.
     Short { len: u32 },
-    /// Its destination is a station on the port that it came from. It was dropped.
+    /// The frame's destination is a station on the port that it came from. It was dropped.
     Filtered,
-    /// Its destination is a station on this port, for which it waits.
+    /// The frame's destination is a station on this port, for which it waits.
     To { port: u32 },
-    /// It waits for all ports but the one that it came from, `count` of them, since its destination is a multicast
-    /// address or no station that is known.
+    /// The frame waits for all ports but the one that it came from, `count` of them, since its destination is a
+    /// multicast address or no station that is known.
     Flood { count: u32 },
 }

@@ -22,7 +22,7 @@ pub record MovesNext (N n : ℕ) (part : MovePart) : Type 0 where
   pub nothing_held : part.held ≡ []
   pub no_marks : part.stored ≡ []
 
--- another part of the seat is as before
+-- the sender's part and the cut's are as before
 pub record OthersStay (before after : LaneView) : Type 0 where
   pub send : the_send after ≡ the_send before
   pub cut : the_cut after ≡ the_cut before

@@ -16,7 +16,7 @@ pub record IsTableOf (N : ℕ) (id : TableId) (about : ℕ) : Type 0 where
   pub two : 2 ≤ N
   pub small : N ≤ most_traffic_entries
 
--- after a step that loads or stores this word a seat is at its table still, and is as the step tells
+-- after a step that loads or stores this value of a word a seat is at its table still, and is as the step tells
 pub record StepTells (told : Tells) (before : Seat Content LaneView) (word : ℕ) (after : Seat Content LaneView) : Type 0 where
   pub table : after.table_id ≡ before.table_id
   pub tells : told before.me word after.me

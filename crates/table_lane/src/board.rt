@@ -14,7 +14,7 @@ use table_rule::rule::LaneRule;
 /// The table of a lane: its words, its slots, and the rule over both.
 pub(crate) type LaneTable = Table<Option<Frame>, LaneView, u64, LaneRule, Global>;
 
-/// What the ends share of it.
+/// What the ends of a lane share of its table.
 pub(crate) type Board = Shared<Option<Frame>, LaneView, u64, LaneRule>;
 
 /// What an end steps with.
@@ -65,7 +65,7 @@ pub(crate) fn position_of(entries: u64, n: u64) -> u64
     n % entries
 }
 
-/// The position of the entry that comes so many entries after one at this position.
+/// The position of the entry that comes so many entries, fewer than the ring has, after one at this position.
 pub(crate) fn position_after(entries: u64, position: u64, more: u64) -> u64
     requires { (position < entries) × (more < entries) × (entries ≤ most_traffic_entries) }
     ensures { (n : ℕ) → position ≡ n % entries → result ≡ (n + more) % entries }
@@ -110,7 +110,7 @@ pub(crate) fn index_out_word(entries: u64) -> usize
     (3 * (entries + SPACING)) as usize
 }
 
-/// The word in which the sender reads it.
+/// The word in which the sender reads how far the receiver has given back.
 pub(crate) fn index_word(entries: u64) -> usize
     requires { entries ≤ most_traffic_entries }
     ensures { result ≡ index_word entries }

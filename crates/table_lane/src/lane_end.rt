@@ -122,9 +122,9 @@ fn join_all(
     all
 }
 
-/// Ends a lane: what the mover holds is moved, the seats become one, and what is left in the ring is received with
-/// it. The ends are those of one [`make`](crate::make). What was sent is what was received before this call, followed
-/// by what is left. It takes no memory.
+/// Ends a lane: what the mover holds is moved, the seats become one, and what is left in the ring is moved and received
+/// with it. The ends are those of one [`make`](crate::make). What was sent is what was received before this call,
+/// followed by what is left. It takes no memory.
 pub fn finish(
     send: SendEnd,
     mut mover: MoveEnd,

@@ -2,8 +2,8 @@
 
 ghost use Rattle.table_lane.specs.Tries.{EachMoveIsATry, EachStepBackIsALoad};
 
-/// Each step of the mover raises what it counts together, its loads of posted headers and the headers and flags that
-/// it stored, by at least one; and it stays in a ring of as many entries.
+/// Each step of the mover raises what it counts together by at least one: its loads of posted headers, and the headers
+/// and flags that it stored. It stays in a ring of as many entries.
 #[tactic(auto, using(crate::proofs::Tries::each_move_is_a_try))]
 pub fn each_move_is_a_try()
     ensures { EachMoveIsATry }

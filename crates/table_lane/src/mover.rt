@@ -156,10 +156,10 @@ impl MoveEnd {
         while self.settle_first() {}
     }
 
-    /// Makes one move. The open moves are the header of each held entry that waits for it, by rising number, and then
-    /// the flag of the first held entry, where its header is stored. Of these and a load of the next posted header,
-    /// the one whose number is `choice` modulo their count is made. Where that load shows a new header, the entry is
-    /// taken; else the first open move is made, and where there is none the answer is `Idle`.
+    /// Makes one move. The first open moves are the header of each held entry that waits for it, by rising number. The
+    /// last one is the flag of the first held entry, where its header is stored. Of these and a load of the next posted
+    /// header, the one whose number is `choice` modulo their count is made. Where that load shows a new header, the
+    /// entry is taken; else the first open move is made, and where there is none the answer is `Idle`.
     pub fn step(&mut self, choice: u64) -> MoveAnswer
         ensures lane { self.new.lane ≡ self.old.lane }
         ensures moves { Moves self.old.part choice result self.new.part }

@@ -59,7 +59,7 @@ pub(crate) fn receive(
 }
 
 impl RecvEnd {
-    /// Receives the next frame, if the flag that this call loads says that it has landed: then the flag is cleared,
+    /// Receives the next frame, if the flag that this call loads says that it has landed. The flag is then cleared,
     /// the slot is empty and index out names the entry.
     pub fn recv(&mut self) -> RecvAnswer
         ensures lane { self.new.lane ≡ self.old.lane }

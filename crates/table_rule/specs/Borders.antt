@@ -6,7 +6,7 @@ use mathlib.Core.Option as home
 use lib.ListN.{get_elem?}
 use Rattle.table_rule.specs.Views.{Bytes}
 
--- Counts of entries that follow one another. Between two of them all slots have the same owner and place.
+-- Counts of entries that follow one another. Between two of them all slots are in the same place.
 pub record Borders : Type 0 where
   -- given back to the sender
   pub freed : ℕ

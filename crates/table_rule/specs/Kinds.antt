@@ -1,6 +1,6 @@
 -- Each kind of step on the table: where it may be made, which steps of the lane it is, and that the table then shows
--- the lane after them. Loads alone change neither words nor slots nor the lane, but that a slot may go to the seat
--- that loads.
+-- the lane after them. A load changes no word. A slot may go to the seat that loads, and the receiver's loads of a flag
+-- that is up and of a header are steps of the lane.
 use Rattle.std.specs.Prelude.{◌≡◌, ◌≢◌, ℕ, ◌+◌, ◌-◌, ◌%◌, ◌<◌, ◌≤◌, Bool, true, false, List, [], ◌∷◌, ◌++◌, length, slice_index, slice_index_or, slice_set, replicate, Some}
 use mathlib.Core.Option.{some}
 use lib.ListN.{get_elem?}
@@ -14,12 +14,12 @@ use Rattle.table_rule.specs.Moment.{Moment, ShowsLane}
 use Rattle.table_rule.specs.LaneNames.{Look, Copy, Clear, Acknowledge, Runs}
 use Rattle.table_rule.specs.LaneSteps.{send_steps, header_steps, flag_steps, index_steps}
 
--- the sender takes the slot of the next entry, where the index word shows room
+-- a sender that has no slot takes that of the next entry, where the index word shows room
 abbrev pub Claims : Type 0
 Claims = (N : ℕ) (m : Moment) (slots : Slots) → m.send.claims ≡ false → 0 < free_entries N (head_of N (length m.send.sent)) m.words.index → ShowsLane N m slots
     → (get_elem? slots (length m.send.sent % N) ≡ some empty) × ShowsLane N (record m { send = record m.send { claims = true } }) (slice_set slots (length m.send.sent % N) out)
 
--- it stores the posted header, and the slot is home with the frame
+-- a sender that has the slot stores the posted header, and the slot is home with the frame
 abbrev pub Sends : Type 0
 Sends = (N : ℕ) (m : Moment) (slots : Slots) (frame : Bytes) → m.send.claims ≡ true → length frame ≤ most_frame_bytes → length m.send.sent < most_lane_frames → AreSized N m.words → ShowsLane N m slots
     → (lane : Lane) × Runs (send_steps (length m.lane.sent) frame) m.lane lane
@@ -33,7 +33,7 @@ Takes = (N : ℕ) (m : Moment) (slots : Slots) (n : ℕ) → n ≡ m.mover.flagg
     → (n < length m.send.sent) × (get_elem? slots (n % N) ≡ some (full m.send.sent n))
     × ShowsLane N (record m { mover = record m.mover { held = m.mover.held ++ slice_index_or m.send.sent n [] ∷ []; stored = m.mover.stored ++ false ∷ [] } }) (slice_set slots (n % N) out)
 
--- it stores the header of a held entry
+-- it stores the header of a held entry, which isn't stored yet
 abbrev pub StoresHeader : Type 0
 StoresHeader = (N : ℕ) (m : Moment) (slots : Slots) (j n : ℕ) → n ≡ m.mover.flagged + j → j < length m.mover.held → slice_index_or m.mover.stored j false ≡ false → ShowsLane N m slots
     → (lane : Lane) × Runs (header_steps n (entry_of m.lane n)) m.lane lane
@@ -47,7 +47,7 @@ StoresFlag = (N : ℕ) (m : Moment) (slots : Slots) (frame : Bytes) (held : List
     (record m { words = record m.words { flags = slice_set m.words.flags (m.mover.flagged % N) done }; lane = lane; mover = record m.mover { flagged = m.mover.flagged + 1; held = held; stored = stored } })
     (slice_set slots (m.mover.flagged % N) (some (Some frame)))
 
--- the receiver takes the slot of the next entry, where its flag is up
+-- an idle receiver takes the slot of the next entry, where its flag is up
 abbrev pub Looks : Type 0
 Looks = (N : ℕ) (m : Moment) (slots : Slots) (n : ℕ) → n ≡ length m.recv.got → m.recv.phase ≡ Idle → slice_index m.words.flags (n % N) ≡ done → ShowsLane N m slots
     → (get_elem? slots (n % N) ≡ some (full m.send.sent n)) × (n < length m.send.sent)

@@ -1,4 +1,5 @@
--- Steps on a table that are no steps of its lane: loads that move no slot, and seats that are split and joined. And a cut stays.
+-- Steps on a table that are no steps of its lane: loads that move no slot, and seats that are split and joined. And a
+-- cut stays.
 use Rattle.std.specs.Prelude.{◌≡◌, ◌≢◌, ℕ, true, [], ◌∷◌, ◌++◌, slice_set}
 use mathlib.Core.Option.{some}
 use lib.ListN.{get_elem?}
@@ -9,8 +10,8 @@ use Rattle.table_rule.specs.Plays.{Tells, sees_link, sees_index, stores_posted, 
 use Rattle.table_rule.specs.Rule.{Board, IsMoment, Sitter}
 use Rattle.table_rule.specs.Views.{LaneView, PartKind, alone, joined, no_parts, the_cut, without}
 
--- the table shows the same lane after a load of the link word, and after one of the index word, a posted header or a flag with
--- which no slot goes to the seat
+-- the table shows the same lane after a load with which no slot goes to the seat: of the link word, the index word, a
+-- posted header or a flag
 pub record StillShown (N : ℕ) (m : Moment) (slots : Slots) (found : ℕ) : Type 0 where
   pub link : ShowsLane N (record m { send = link_loaded m.send found }) slots
   pub index : ShowsLane N (record m { send = index_loaded m.send found }) slots

@@ -19,13 +19,13 @@ pub struct SendPart {
     pub sent: [Frame; 0],
     /// Whether the slot of the next entry is with the sender.
     pub claims: bool,
-    /// How often the link word was loaded, and what the last load showed.
+    /// How often the link word was loaded.
     pub link_loads: u64,
-    /// The value that the last load of the link word showed.
+    /// The value that the last load of the link word showed; 0 before the first.
     pub link: u64,
     /// How often the index word was loaded.
     pub index_loads: u64,
-    /// The value that the last load of the index word showed.
+    /// The value that the last load of the index word showed; 0 before the first.
     pub index: u64,
 }
 
@@ -41,7 +41,7 @@ pub struct MovePart {
     pub stored: [bool; 0],
     /// How often a posted header was loaded.
     pub loads: u64,
-    /// The value that the last load of a posted header showed.
+    /// The value that the last load of a posted header showed; 0 before the first.
     pub posted: u64,
     /// How many headers were stored.
     pub headers: u64,
@@ -63,7 +63,7 @@ pub struct RecvPart {
     pub hand: [Frame; 0],
     /// How often a flag was loaded.
     pub loads: u64,
-    /// The value that the last load of a flag showed.
+    /// The value that the last load of a flag showed; 0 before the first.
     pub flag: u64,
 }
 

@@ -60,8 +60,8 @@ const READS: u32 = 100_000_000;
 /// After so many reads it lets other threads run.
 const READS_TO_YIELD: u32 = 1_024;
 
-/// The gate at which the sending and the receiving worker of lane 0 meet: each sets a flag before its first turn, and reads the
-/// other's until it is set.
+/// The gate at which the sending and the receiving worker of lane 0 meet: each sets a flag before its first turn, and
+/// reads the other's until it is set.
 #[derive(Drop)]
 struct Meeting {
     sender_came: AtomicBool,
@@ -115,7 +115,8 @@ fn is_answer(ended: &Ended, sink: &MemorySink, text: &str, proofs: usize) -> boo
     ended.status == 0 && sink.held() == text.as_bytes() && ended.proofs.len() == proofs
 }
 
-// A run whose workers never act beside one another doesn't pass: the first of both spends its reads before the other comes.
+// A run whose workers never act beside one another doesn't pass: the first of both spends its reads before the other
+// comes.
 #[test]
 fn workers_meet(rt: HostRuntime) -> Result<(), Fail> {
     let gate = Meeting::new();

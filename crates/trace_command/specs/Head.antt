@@ -1,4 +1,5 @@
--- The head of a trace: its version, and what each pair of the plan comes to once its options and their defaults are known.
+-- The head of a trace: its version, and what each pair of the plan comes to once its options and their defaults are
+-- known.
 use Rattle.std.specs.Prelude.{ℕ, ◌==◌, List, [], ◌++◌, codes, slice_index_or, if◌then◌else◌}
 use Rattle.std.specs.List.{flat_map, range_with_len}
 use Rattle.step_kinds.specs.declared.names.Side.{Side}
@@ -11,7 +12,8 @@ use Rattle.report_text.specs.Report.{line_of}
 use Rattle.trace_text.specs.Lines.{first_line}
 use Rattle.trace_text.specs.Words.{number_member, text_member, truth_text}
 
--- the ring that a side sends to on a queue: its entries, the most bytes of an entry's payload, and the traffic class of its writes
+-- the ring that a side sends to on a queue: its entries, the most bytes of an entry's payload, and the traffic class of
+-- its writes
 abbrev pub ring_object : PairPlan → Side → ℕ → List ℕ
 ring_object pair side queue =
     number_member (codes "{\"entries\":") (sizes_of pair side queue).entries ++ number_member (codes ",\"largest\":") (sizes_of pair side queue).largest

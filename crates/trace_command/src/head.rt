@@ -15,7 +15,8 @@ use std::alloc::AllocError;
 use step_kinds::{PairPlan, Side};
 use trace_text::{push_first_line, push_number_member, push_text_member};
 
-/// Adds the head of a trace: the line with its version, and a line for each pair. The only error is out of memory.
+/// Adds the head of a trace: the line with its version, and a line for each pair. Each pair is one that a script can
+/// declare. The only error is out of memory.
 pub fn push_head(text: &mut Vec<u8>, pairs: &[PairPlan]) -> Result<(), AllocError>
     requires { All IsPair pairs.now }
     ensures { OnOk result (text.new.items ≡ text.old.items ++ head pairs.now) }

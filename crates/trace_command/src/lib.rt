@@ -1,5 +1,5 @@
-//! The command `trace`: a plan's steps made one after another, and a line of JSON for each, which says which of the writes in
-//! flight it concerns.
+//! The command `trace`: a plan's steps made one after another, and a line of JSON for each, which says which of the
+//! writes in flight it concerns.
 #![tactic(auto)]
 
 mod command;

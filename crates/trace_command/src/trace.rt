@@ -20,8 +20,8 @@ use std::marker::Model;
 use step_kinds::{LineAnswer, Plan, Step};
 use trace_text::{WriteNumbers, push_ending, push_step_line};
 
-/// The lines of a trace so far, the numbers of the writes in flight, and room for one line that repeats. Contracts see the
-/// plan, the numbers and the bytes of the lines.
+/// The lines of a trace so far, the numbers of the writes in flight, and room for one line that repeats. Contracts see
+/// the plan, the numbers and the bytes of the lines.
 #[derive(Drop)]
 struct TraceLines<'a> {
     plan: &'a Plan,
@@ -74,10 +74,14 @@ impl<'a> TraceLines<'a> {
     }
 }
 
-/// The trace of a script: its head, with the version of its form and a line for
-/// each pair; a line for each step, in the order in which they are
-/// made; a line for each lane in each session where a frame was accepted or delivered, for each device, and the end. The
-/// only error is out of memory.
+/// The trace of a script. It has, one after another:
+///
+/// - its head, with the version of its form and a line for each pair,
+/// - a line for each step, in the order in which they are made,
+/// - a line for each lane in each session where a frame was accepted or delivered,
+/// - a line for each device, and the end.
+///
+/// The script's plan is one that a script declares (`IsWhole`). The only error is out of memory.
 pub fn trace_text(alloc: Global, script: &Script) -> Result<Vec<u8>, AllocError>
     requires { IsWhole (plan_in script.now) }
     ensures { IfOk result (λ text. text.items ≡ text_of_plan (plan_in script.now)) }
@@ -98,8 +102,8 @@ fn text_by(alloc: Global, script: &Script, cluster: &mut Cluster) -> Result<Vec<
     Ok(lines.text)
 }
 
-// Adds what stands after a trace's steps: its lanes and devices, as the cluster that has made the steps counts them, and
-// the end.
+// Adds what stands after a trace's steps: its lanes and devices, as the cluster that has made the steps counts them,
+// and the end.
 fn push_counts(
     alloc: Global,
     text: &mut Vec<u8>,

@@ -1,5 +1,5 @@
--- What the ledger makes sure of in each item of a log: a drop comes while the link isn't up, a queue's write has the queue's class, and a
--- write that lands stands at its place in flight.
+-- What the ledger makes sure of in each item of a log. A drop comes while the link isn't up, a queue's write has the
+-- queue's class, and a write that lands stands at its place in flight.
 use Rattle.std.proofs.Common.{◌≡◌, ℕ, ◌==◌, Bool, true, false, not, None, Option, Some, List, ◌∷◌, length, map, refl, sym, ap, ◌∙◌}
 use Rattle.std.specs.Prelude.{slice_get, slice_index_or}
 use Rattle.std.specs.List.{list_all}
@@ -57,7 +57,8 @@ module _ (plan : Plan) (pair : ℕ) (now : Outbox) where
   refused_fits p Done is = absurd (false≢true is)
   refused_fits p r is = tt
 
-  -- the answer to a step on a pair, where the writes left to post are their lanes', and the outbox says whether this pair is up
+  -- the answer to a step on a pair, where the writes left to post are their lanes', and the outbox says whether this
+  -- pair is up
   pub answer_fits : (own : PairPlan) (bytes : Bytes) (part : PairPart) (step : Step) → OwnTodos part
       → ((p : ℕ) → step ≡ DropDone p → p == pair ≡ true → now.up ≡ link_up part)
       → Fits plan pair now (record { step = step; answer = (pair_next plan.devs own bytes part step).answer })

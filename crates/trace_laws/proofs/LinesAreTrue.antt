@@ -1,4 +1,5 @@
--- The lines of a trace are true. Its first lines have a log of their bridges, which goes on by a landing with the answer of its line.
+-- The lines of a trace are true. Its first lines have a log of their bridges, which goes on by a landing with the
+-- answer of its line.
 use Rattle.std.proofs.Common.{◌≡◌, ℕ, ◌<◌, List, [], ◌∷◌, ◌++◌, map, refl, sym, ap, ◌∙◌, subst}
 use Rattle.std.specs.Prelude.{Some, if◌then◌else◌, length, nat_lt, slice_get}
 use Rattle.step_kinds.specs.declared.names.Side.{Side}

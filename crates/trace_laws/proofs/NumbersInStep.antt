@@ -1,4 +1,5 @@
--- The writes of a side go in step with what it has in flight: the number of each is the place of its label among those posted.
+-- The writes of a side go in step with what it has in flight: the number of each is the place of its label among those
+-- posted.
 use Rattle.std.proofs.Common.{◌≡◌, ℕ, zero, suc, Option, Some, List, [], ◌∷◌, ◌++◌, length, map, refl, sym, ap, ◌∙◌, arith, length-append}
 use Rattle.std.specs.Prelude.{drop, remove, slice_get, take}
 use Rattle.std.specs.List.{drop-map, take-map}

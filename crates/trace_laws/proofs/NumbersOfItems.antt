@@ -26,8 +26,8 @@ use Rattle.trace_text.specs.declared.changes.Change.TheVariants.{Trains, Breaks,
 use Rattle.trace_laws.specs.Laws.{takes_out, with_item}
 use Rattle.trace_laws.proofs.NumbersInStep.{SideInStep, dropped_in_step, landed_in_step, posted_in_step}
 
--- what the ledger makes sure of in an item of a log: what is dropped is dropped while the link isn't up, and a write of a queue has the
--- queue's class
+-- what the ledger makes sure of in an item of a log: a drop comes while the link isn't up, and a write of a queue has
+-- the queue's class
 abbrev pub Fits : Plan → ℕ → Outbox → Answered → Type 0
 Fits plan pair now made = fits made.step made.answer where
   fits : Step → Answer → Type 0

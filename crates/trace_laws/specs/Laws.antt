@@ -1,5 +1,6 @@
--- What is so of the numbers of posted writes in every log: a number that a landing names was posted before, belongs to the label that
--- landed, and lands once; and a landing that is blocked names a write that it may not pass. A trace follows these numbers.
+-- What is so of the numbers of posted writes in every log. A number that a landing names was posted before, belongs to
+-- the label that landed, and lands once. A landing that is blocked names a write that it may not pass. A trace follows
+-- these numbers.
 use Rattle.std.specs.Prelude.{◌≡◌, ℕ, ◌<◌, ◌==◌, Bool, true, false, not, List, [], ◌∷◌, ◌++◌, Some, count_by, filter, length, map, nat_lt, slice_get, slice_index_or, if◌then◌else◌}
 use Rattle.std.specs.List.{fold}
 use Rattle.step_kinds.specs.Sides.{same_side}
@@ -41,7 +42,8 @@ side_writes plan log pair side = at_side (pair_writes plan log pair).sides side
 
 -- What was posted
 
--- whether an item of the log takes writes out of what is in flight: a landing, or a drop
+-- whether an item of the log is of a step that takes writes out of what is in flight where it is made: a landing, or a
+-- drop
 abbrev pub takes_out : Answered → Bool
 takes_out made = takes made.step where
   takes : Step → Bool
@@ -49,8 +51,8 @@ takes_out made = takes made.step where
   takes (DropDone pair) = true
   takes step = false
 
--- the labels that a side posted while its pair's link was up, in order: what it would have in flight had nothing landed and nothing been
--- dropped
+-- the labels that a side posted while its pair's link was up, in order: what it would have in flight had nothing landed
+-- and nothing been dropped
 abbrev pub posted_labels : Plan → List Answered → ℕ → Side → List Label
 posted_labels plan log pair side = in_flight plan (filter (λ made. not (takes_out made)) log) pair side
 
@@ -87,8 +89,8 @@ dropped_numbers plan log pair side = taken_from (dropped_by side) plan pair (pai
 abbrev pub how_often : ℕ → List ℕ → ℕ
 how_often n numbers = count_by (λ m. m == n) numbers
 
--- The number of each write that was posted stands exactly once among those that landed, those that were dropped, and those in flight; and
--- no other number does. So each lands once at most.
+-- The number of each write that was posted stands exactly once among those that landed, those that were dropped, and
+-- those in flight; and no other number does. So each lands once at most.
 abbrev pub EachNumberStandsOnce : Type 0
 EachNumberStandsOnce = (plan : Plan) (memories : Memories) (steps : List Step) (pair : ℕ) (side : Side) (n : ℕ) →
     let log = log_of plan memories steps in
@@ -129,7 +131,8 @@ HaveTheirAnswers plan memories lines = map (λ line. line.made.answer) lines ≡
 abbrev pub traced_writes : Plan → List AnsweredStep → List PairWrites
 traced_writes plan lines = fold (λ writes line. writes_after plan.pairs writes line.step line.made.answer) (writes_start plan.pairs) lines
 
--- They are the writes after what the log has of bridges. A relay changes none, nor does an `xnext`, or the `begin` that it is in the log.
+-- They are the writes after what the log has of bridges. A relay changes none, nor does an `xnext`, or the `begin` that
+-- it is in the log.
 abbrev pub TracesFollowTheLog : Type 0
 TracesFollowTheLog = (plan : Plan) (memories : Memories) (lines : List AnsweredStep) (pair : ℕ) → HaveTheirAnswers plan memories lines → pair < length plan.pairs →
     pair_in (traced_writes plan lines) pair ≡ pair_writes plan (on_bridges (switch_log plan memories (steps_of lines))) pair

@@ -1,5 +1,5 @@
--- What is true of the lines of a trace: each landing names the write that landed, each number stands once, and each blocked landing
--- names an earlier write that stops it.
+-- What is true of the lines of a trace. Each landing names the write that landed, each number stands once, and each
+-- blocked landing names an earlier write that stops it.
 use Rattle.std.specs.Prelude.{◌≡◌, ℕ, ◌<◌, List, ◌∷◌, ◌++◌, Some, length, nat_lt, slice_get, if◌then◌else◌}
 use Rattle.step_kinds.specs.declared.names.Side.{Side}
 use Rattle.step_kinds.specs.declared.plan.Plan.{Plan}
@@ -28,7 +28,8 @@ pub record IsTrueTrace (plan : Plan) (memories : Memories) (lines : List Answere
   pub landings : (before behind : List AnsweredStep) (line : AnsweredStep) (place : ℕ) (label : Label) → lines ≡ before ++ line ∷ behind →
       line.step ≡ Land pair side place → line.made.answer ≡ Landed label →
       slice_get (posted_labels plan (bridges_after plan memories before) pair side) (number_at (traced_side plan before pair side).flight place) ≡ Some label
-  -- after any lines, the number of each write that was posted stands once among those that landed, were dropped, and are in flight
+  -- after any lines, the number of each write that was posted stands once among those that landed, were dropped, and
+  -- are in flight
   pub once : (before behind : List AnsweredStep) (n : ℕ) → lines ≡ before ++ behind →
       let log = bridges_after plan memories before in
       how_often n (landed_numbers plan log pair side ++ (dropped_numbers plan log pair side ++ numbers_in (traced_side plan before pair side).flight))

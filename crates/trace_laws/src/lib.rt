@@ -1,5 +1,5 @@
-//! The laws of the numbers of posted writes, each the clause of a function with an empty body. They hold of every plan, every
-//! list of steps and whatever the memories show. An ordinary pair is one that isn't declared `raw`.
+//! The laws of the numbers of posted writes, each the clause of a function with an empty body. They hold of every plan,
+//! every list of steps and whatever the memories show. An ordinary pair is one that isn't declared `raw`.
 #![tactic(auto)]
 
 ghost use Rattle.trace_laws.specs.Laws.{
@@ -17,24 +17,24 @@ pub fn landings_are_of_their_labels()
 {}
 
 /// The number of each write that a side posted while the link was up stands exactly once among those that landed, those
-/// that were dropped and those in flight, and no other number does. Premise: the pair is ordinary.
+/// that were dropped and those in flight. No other number stands among them. Premise: the pair is ordinary.
 pub fn each_number_stands_once()
     ensures { EachNumberStandsOnce }
 {}
 
-/// A landing that is blocked names an earlier write in flight which the one at its place may not pass. Premise: the pair
-/// is ordinary.
+/// A landing that is blocked names an earlier write in flight which the one at its place may not pass. Premise: the
+/// pair is ordinary.
 pub fn blocked_landings_wait()
     ensures { BlockedLandingsWait }
 {}
 
-/// After lines with the answers of a log, a trace has the writes of each pair that the log of its bridges has. The log is
-/// that of a plan with switches or without. Premise: the pair is one of the plan.
+/// After lines with the answers of a log, a trace has the writes of each pair that the log of its bridges has. The log
+/// is that of a plan with switches or without. Premise: the pair is one of the plan.
 pub fn traces_follow_the_log()
     ensures { TracesFollowTheLog }
 {}
 
-/// The lines of a trace are true where they have the answers of the log: a landing names the number of the write that
+/// The lines of a trace are true where they have the answers of the log. A landing names the number of the write that
 /// landed, and a blocked one that of an earlier write which stops it. After any lines each number stands once. The log
 /// is that of a plan with switches or without. Premises: the pair is one of the plan, and is ordinary.
 pub fn traces_are_true()

@@ -32,9 +32,9 @@ abbrev pub dropped_members : PairWrites → List ℕ
 dropped_members now =
     codes ",\"dropped\":{\"A\":" ++ numbers_list (numbers_in now.sides.a.flight) ++ codes ",\"B\":" ++ numbers_list (numbers_in now.sides.b.flight) ++ codes "}"
 
--- What a step changes, said with the numbers of the writes: a post has the number of the write, or null where it is lost; a landing has
--- the number of the write that landed, and how many earlier ones it passed; one that is blocked has the number of the write and of
--- that which it waits for; a drop has the numbers of all that are lost.
+-- What a step changes, said with the numbers of the writes. A post has the number of the write, or null where it is
+-- lost. A landing has the number of the write that landed, and how many earlier ones it passed. One that is blocked has
+-- the number of the write and of that which it waits for. A drop has the numbers of all that are lost.
 abbrev pub change_members : PairWrites → Change → List ℕ
 change_members now (Trains session) = link_members (codes "up") session
 change_members now Breaks = link_members (codes "closing") now.session

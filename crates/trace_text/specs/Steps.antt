@@ -1,5 +1,5 @@
--- Steps and answers as JSON objects: a name, which is the word of the script or of the report, and a member for each of its numbers,
--- names and bytes.
+-- Steps and answers as JSON objects: a name, which is the word of the script or of the report, and a member for each of
+-- its numbers, names and bytes.
 use Rattle.std.specs.Prelude.{ℕ, Option, Some, None, List, [], ◌++◌, codes}
 use Rattle.step_kinds.specs.declared.names.Side.{Side}
 use Rattle.step_kinds.specs.declared.plan.Plan.{Plan}

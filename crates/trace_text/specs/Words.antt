@@ -1,4 +1,5 @@
--- Members of a JSON object. Each text stands as it is written; names of a script are letters and digits, so no text has to be escaped.
+-- Members of a JSON object. Each text stands as it is written; names of a script are letters and digits, so no text has
+-- to be escaped.
 use Rattle.std.specs.Prelude.{ℕ, Bool, true, false, List, [], ◌∷◌, ◌++◌, codes}
 use Rattle.std.specs.Fmt.{decimal}
 use Rattle.std.specs.List.{flat_map}

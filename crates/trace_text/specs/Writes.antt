@@ -1,5 +1,6 @@
--- The numbers of posted writes. A side's writes are numbered from 0 over the whole run: the number of a write is where it stands
--- among those that its side posted while the pair's link was up. A write that was posted while it wasn't is lost, and has none.
+-- The numbers of posted writes. A side's writes are numbered from 0 over the whole run. The number of a write is where
+-- it stands among those that its side posted while the pair's link was up. A write that was posted while it wasn't is
+-- lost, and has none.
 use Rattle.std.specs.Prelude.{ℕ, ◌+◌, ◌==◌, Bool, true, false, List, [], ◌∷◌, ◌++◌, map, remove, slice_index_or, slice_set, take, if◌then◌else◌}
 use Rattle.std.specs.List.{fold}
 use Rattle.step_kinds.specs.Subject.{subject_of}
@@ -16,7 +17,8 @@ use Rattle.trace_text.specs.declared.changes.Change.{Change}
 use Rattle.trace_text.specs.declared.changes.Change.TheVariants.{Trains, Breaks, Drops, Posts, Lands, Waits, Nothing}
 use Rattle.trace_text.specs.declared.writes.FlyingWrite.{FlyingWrite}
 
--- of a side: how many writes it posted while the link was up, and those of them that are in flight, in the order of posting
+-- of a side: how many writes it posted while the link was up, and those of them that are in flight, in the order of
+-- posting
 pub record SideWrites : Type 0 where
   pub posted : ℕ
   pub flight : List FlyingWrite
@@ -112,8 +114,8 @@ number_at flight place = (write_at flight place).number
 abbrev pub last_of_class : ℕ → List FlyingWrite → ℕ
 last_of_class class flight = fold (λ found write. if write.class == class then write.number else found) 0 flight
 
--- the number of the write that stops the one at a place: a strict write passes no earlier one of its traffic class, so it is the
--- last of that class before it
+-- the number of the write that stops the one at a place: since a strict write passes no earlier one of its traffic
+-- class, it is the last of these
 abbrev pub stopped_by : List FlyingWrite → ℕ → ℕ
 stopped_by flight place = last_of_class (write_at flight place).class (take place flight)
 

@@ -9,7 +9,7 @@ use report_text::append::push_word;
 use std::alloc::AllocError;
 use step_kinds::{Answer, Label};
 
-/// Adds an answer as an object.
+/// Adds an answer as an object. The only error is running out of memory.
 pub fn push_answer(text: &mut Vec<u8>, answer: &Answer) -> Result<(), AllocError>
     ensures { OnOk result (text.new.items ≡ text.old.items ++ answer_object answer.now) }
 {

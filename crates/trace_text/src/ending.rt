@@ -18,9 +18,9 @@ pub fn push_first_line(text: &mut Vec<u8>) -> Result<(), AllocError>
     push_word(text, "{\"trace\":1}\n")
 }
 
-/// Adds what follows the steps: a line for each lane and session where a frame was accepted or delivered; a line for each
-/// device of the plan with its counters; and the line of the end. The only error is running out of memory, and then
-/// some part of the text may have been added.
+/// Adds what follows the steps. First comes a line for each lane and session where a frame was accepted or delivered.
+/// Then come a line for each device of the plan with its counters, as far as both lists go, and the line of the end.
+/// The only error is running out of memory, and then some part of the text may have been added.
 pub fn push_ending(
     text: &mut Vec<u8>,
     plan: &Plan,

@@ -15,9 +15,9 @@ use report_text::append::push_word;
 use std::alloc::AllocError;
 use step_kinds::{LineAnswer, Plan, Side, Step};
 
-/// Adds the line of a step: its line in the script, the step, its answer, and what it changes of the link or of the writes
-/// in flight, which are those before the step. The only error is running out of memory, and then some part of the line
-/// may have been added.
+/// Adds the line of a step: its line in the script, the step, its answer, and what it changes of the link or of the
+/// writes in flight. `writes` are those before the step. The only error is running out of memory, and then some part of
+/// the line may have been added.
 pub fn push_step_line(
     text: &mut Vec<u8>,
     plan: &Plan,

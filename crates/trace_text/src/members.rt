@@ -12,7 +12,7 @@ use report_text::append::{push_hex, push_word};
 use std::alloc::AllocError;
 use step_kinds::Label;
 
-/// Adds a number.
+/// Adds a number. The only error is running out of memory.
 pub fn push_number(text: &mut Vec<u8>, number: u64) -> Result<(), AllocError>
     ensures { OnOk result (text.new.items ≡ text.old.items ++ decimal number) }
 {
@@ -20,7 +20,11 @@ pub fn push_number(text: &mut Vec<u8>, number: u64) -> Result<(), AllocError>
     text.extend_from_slice(digits.format(number).as_bytes())
 }
 
-/// Adds a member with a number.
+/// Adds a member of a JSON object with a number. `name` has the comma before it and the colon after it, as `,"queue":`.
+///
+/// # Errors
+///
+/// [`AllocError`] only when out of memory.
 #[tactic(auto, unfolding(crate::specs::Words::number_member))]
 pub fn push_number_member(text: &mut Vec<u8>, name: &str, number: u64) -> Result<(), AllocError>
     ensures { OnOk result (text.new.items ≡ text.old.items ++ number_member name.now number) }
@@ -29,7 +33,12 @@ pub fn push_number_member(text: &mut Vec<u8>, name: &str, number: u64) -> Result
     push_number(text, number)
 }
 
-/// Adds a member with a text.
+/// Adds a member of a JSON object with a text, within quotation marks and as it is: nothing is escaped. `name` has the
+/// comma before it and the colon after it, as `,"side":`.
+///
+/// # Errors
+///
+/// [`AllocError`] only when out of memory.
 #[tactic(auto, unfolding(crate::specs::Words::text_member))]
 pub fn push_text_member(text: &mut Vec<u8>, name: &str, value: &[u8]) -> Result<(), AllocError>
     ensures { OnOk result (text.new.items ≡ text.old.items ++ text_member name.now value.now) }
@@ -40,7 +49,7 @@ pub fn push_text_member(text: &mut Vec<u8>, name: &str, value: &[u8]) -> Result<
     push_word(text, "\"")
 }
 
-/// Adds a member with bytes.
+/// Adds a member with bytes. The only error is running out of memory.
 #[tactic(auto, unfolding(crate::specs::Words::text_member))]
 pub fn push_bytes_member(text: &mut Vec<u8>, name: &str, bytes: &[u8]) -> Result<(), AllocError>
     ensures { OnOk result (text.new.items ≡ text.old.items ++ bytes_member name.now bytes.now) }
@@ -51,7 +60,8 @@ pub fn push_bytes_member(text: &mut Vec<u8>, name: &str, bytes: &[u8]) -> Result
     push_word(text, "\"")
 }
 
-/// Adds the list of the numbers of a side's writes in flight, in the order of posting.
+/// Adds the list of the numbers of a side's writes in flight, in the order of posting. The only error is running out of
+/// memory.
 #[tactic(auto, unfolding(crate::specs::Words::numbers_list))]
 pub fn push_numbers_in(text: &mut Vec<u8>, side: &SideNumbers) -> Result<(), AllocError>
     ensures { OnOk result (text.new.items ≡ text.old.items ++ numbers_list (numbers_in side.now.flight)) }
@@ -66,7 +76,7 @@ pub fn push_numbers_in(text: &mut Vec<u8>, side: &SideNumbers) -> Result<(), All
     push_word(text, "]")
 }
 
-/// Adds a label.
+/// Adds a label. The only error is running out of memory.
 pub fn push_label(text: &mut Vec<u8>, label: &Label) -> Result<(), AllocError>
     ensures { OnOk result (text.new.items ≡ text.old.items ++ label_object label.now) }
 {

@@ -34,7 +34,7 @@ pub struct FlyingWrite {
     pub class: u32,
 }
 
-// A trace asks the queue for its order and for the quick removal of a write alone: whether a write may land is the
+// A trace asks the queue for its order and for the quick removal of a write alone. Whether a write may land is the
 // replay's to say, so here each write may pass all others.
 impl Ordered for FlyingWrite {
     ghost order = { λ write. record { kind = 0; class = 0 } };
@@ -81,7 +81,8 @@ impl SideNumbers {
         self.flight.len()
     }
 
-    /// The write at a place in flight, 0 for the one that was posted first. Where none is, its number and its class are 0.
+    /// The write at a place in flight, 0 for the one that was posted first. Where none is, its number and its class are
+    /// 0.
     pub fn write_at(&self, place: usize) -> FlyingWrite
         ensures { result ≡ write_at self.now.flight place }
     {
@@ -92,8 +93,8 @@ impl SideNumbers {
         self.flight.label_at(place).copied().unwrap_or(none)
     }
 
-    /// The number of the write that stops the one at a place: the last before it of the same traffic class. It is 0 where
-    /// none before it has that class.
+    /// The number of the write that stops the one at a place: the last before it of the same traffic class. It is 0
+    /// where none before it has that class.
     pub fn stopped_by(&self, place: usize) -> u64
         ensures { result ≡ stopped_by self.now.flight place }
     {
@@ -145,8 +146,8 @@ impl Model for SideNumbers {
     ghost view = { λ side. record { posted = side.posted; flight = side.flight.writes } };
 }
 
-/// The link of a pair, and the writes of its two sides. Contracts see whether the link is up, the session, and the writes
-/// by their sides.
+/// The link of a pair, and the writes of its two sides. Contracts see whether the link is up, the session, and the
+/// writes by their sides.
 #[derive(Drop)]
 pub struct PairNumbers {
     up: bool,
@@ -156,8 +157,8 @@ pub struct PairNumbers {
 }
 
 impl PairNumbers {
-    /// A pair before any step, where its link is declared up or isn't: one that is up is in session 1. It takes no memory
-    /// yet.
+    /// A pair before any step, where its link is declared up or isn't: one that is up is in session 1. It takes no
+    /// memory yet.
     pub fn new(alloc: Global, up: bool) -> PairNumbers
         ensures { result ≡ pair_start (record no_pair { up = up }) }
     {
@@ -248,7 +249,8 @@ impl Model for PairNumbers {
     ghost view = { λ pair. record { up = pair.up; session = pair.session; sides = record { a = pair.a; b = pair.b } } };
 }
 
-/// The writes of all pairs of a plan, with their numbers. Contracts see a list, with the links and the writes of each pair.
+/// The writes of all pairs of a plan, with their numbers. Contracts see a list, with the links and the writes of each
+/// pair.
 #[derive(Drop)]
 pub struct WriteNumbers {
     pairs: Vec<PairNumbers>,
@@ -281,9 +283,9 @@ impl WriteNumbers {
         }
     }
 
-    /// What a step of a script on these pairs changes, where it was answered so: a write more, a write less, a link that is
-    /// up or down. A step on a pair that isn't there changes nothing. The only error is running out of memory, which is
-    /// also the answer where a side has posted 2^64 - 1 writes.
+    /// What a step of a script on these pairs changes, where it was answered so: a write more, a write less, no writes,
+    /// a link that is up or isn't. A step on a pair that isn't there changes nothing. The only error is running out of
+    /// memory, which is also the answer where a side has posted 2^64 - 1 writes.
     pub fn follow(
         &mut self,
         pairs: &[PairPlan],

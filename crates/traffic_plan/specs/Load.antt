@@ -54,8 +54,8 @@ eight_of bytes = (bytes ++ bytes ++ bytes ++ bytes) ++ (bytes ++ bytes ++ bytes 
 abbrev pub landings_of : ℕ → List Step
 landings_of word = map (λ i. Land 0 A (word / 2 ^ (8 * i) % 4)) (range_with_len 0 8)
 
--- the frame is sent, eight landings are tried, the first write in flight lands as often as there are writes, the peer
--- receives the frame, and its index write lands
+-- The frame is sent, and eight landings are tried. Then landings of the first write in flight are tried, as many as the
+-- frame has writes. The peer receives the frame, and its index write lands.
 abbrev pub frame_steps : ℕ → ℕ → List Step
 frame_steps word landings =
     let chunks = chunks_in (length_of word) in

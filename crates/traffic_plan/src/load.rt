@@ -96,7 +96,7 @@ pub struct LoadFrames {
 }
 
 impl LoadFrames {
-    /// None was given yet.
+    /// The frames of the loads of this seed, of which none was given yet.
     pub fn new(seed: u64) -> LoadFrames
         ensures { result ≡ frames_given seed 0 }
     {
@@ -107,9 +107,9 @@ impl LoadFrames {
         }
     }
 
-    /// Puts the steps of the next frame in place of those in `steps`; the number of their line is that of the frame, from
-    /// 1. A load has at most 30,000 frames. The only error is running out of memory: then `steps` is empty, and the
-    /// same frame is still the next one.
+    /// Puts the steps of the next frame in place of those in `steps`; the number of their line is that of the frame,
+    /// counted from 1. Fewer than 30,000 frames were given before. The only error is running out of memory: then
+    /// `steps` is empty, and the same frame is still the next one.
     pub fn put_next(&mut self, alloc: Global, steps: &mut StepList) -> Result<(), AllocError>
         requires { self.old.given < most_load_frames }
         ensures steps { OnOk result (steps.new ≡ lines_of_frame self.old.seed self.old.given) }
@@ -154,9 +154,9 @@ fn load_lines(alloc: Global, seed: u64, frames: u32) -> Result<Items<Line>, Allo
     steps.into_items(alloc)
 }
 
-/// The plan of each load, but for its steps: its pair, named `p`, starts up with version 4, one queue, one window of 4,096
-/// bytes and an mtu of 1,023 on both sides, not strict, not raw, and each class 0. The only error is running out of
-/// memory.
+/// The plan of each load, but for its steps. Its pair, named `p`, starts up with version 4, one queue, one window of
+/// 4,096 bytes and an mtu of 1,023 on both sides. It is neither strict nor raw, and each class is 0. The only error is
+/// running out of memory.
 pub fn load_without_steps(alloc: Global) -> Result<Plan, AllocError>
     ensures { IfOk result (λ plan. plan ≡ plan_of []) }
 {
@@ -173,11 +173,14 @@ pub fn load_without_steps(alloc: Global) -> Result<Plan, AllocError>
 
 /// The plan of a load of so many frames, 1 to 30,000, by a seed. The only error is running out of memory.
 ///
-/// Its pair is that of [`load_without_steps`]. SplitMix64 (Steele, Lea and Flood) gives two words of 64 bits a frame. By
-/// the first a frame has 1 to 300 bytes, which are the word's own, the lowest first, again and again. It is sent on queue
-/// 0 of side A and all its writes are posted; eight landings at the places 0 to 3 that the second word says are tried;
-/// then the first write in flight lands, as often as the frame has writes; then side B receives it whole, and its index
-/// write lands. The number of a step's line is that of its frame, from 1.
+/// Its pair is that of [`load_without_steps`]. SplitMix64 (Steele, Lea and Flood) gives two words of 64 bits a frame.
+/// By the first a frame has 1 to 300 bytes, which are the word's own, the lowest first, again and again. The number of
+/// a step's line is that of its frame, from 1. A frame has these steps:
+///
+/// 1. It is sent on queue 0 of side A, and all its writes are posted.
+/// 2. Eight landings are tried, at the places 0 to 3 that the second word says.
+/// 3. A landing of the first write in flight is tried, as often as the frame has writes.
+/// 4. Side B receives it whole, and its index write lands.
 pub fn generate(alloc: Global, seed: u64, frames: u32) -> Result<Plan, AllocError>
     requires some { 1 ≤ frames }
     requires few { frames ≤ most_load_frames }

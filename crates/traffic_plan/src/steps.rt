@@ -71,7 +71,7 @@ pub fn receive(copies: u32) -> Macro
     }
 }
 
-/// Adds the eight landings that a word says.
+/// Adds the eight landings that a word says. The only error is running out of memory.
 pub fn push_landings(steps: &mut StepList, line: u32, word: u64) -> Result<(), AllocError>
     ensures { OnOk result (steps.new ≡ steps.old ++ lines_with line (landings_of word)) }
 {

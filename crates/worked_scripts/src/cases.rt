@@ -34,15 +34,15 @@ pub struct Case {
     pub wanted: Vec<Wanted>,
 }
 
-/// The cases of a table, and whether it has its form: nothing stands outside a case, each has a head and what is wanted, and the last
-/// one is closed.
+/// The cases of a table, and whether it has its form: nothing stands outside a case, each has a head and what is
+/// wanted, and the last one is closed.
 #[derive(Drop)]
 pub struct Table {
     pub cases: Vec<Case>,
     pub is_whole: bool,
 }
 
-/// The table that these lines are.
+/// The table that these lines are. The only error is running out of memory.
 pub fn table_of(alloc: Global, lines: &[String]) -> Result<Table, AllocError> {
     let mut table = Table {
         cases: Vec::new(alloc),

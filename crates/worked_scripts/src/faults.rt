@@ -28,8 +28,9 @@ enum Seen {
     Other,
 }
 
-/// Whether a source that fails at a call is answered with status 4 and nothing is written, for each call that is made, and the whole text
-/// comes where the call isn't made.
+/// Whether, for each call that is made, a source that fails there is answered with status 4 and nothing is written.
+/// Where the call isn't made, the case's status has to come. More calls have to fail than the script has pieces. The
+/// only error is running out of memory.
 pub fn read_faults_are_told<R: Threads + Wait + Sync>(
     rt: &R,
     alloc: Global,
@@ -75,8 +76,9 @@ fn read_fault_over<R: Threads + Wait + Sync>(
     Ok(Seen::Other)
 }
 
-/// Whether a sink that fails at a call is answered with status 5 and keeps a front of the text, a piece for each call before, for each
-/// call that is made, and the whole text comes where the call isn't made.
+/// Whether, for each call that is made, a sink that fails there is answered with status 5 and keeps a front of the
+/// text, a piece for each call before. Where the call isn't made, the case's status has to come. The only error is
+/// running out of memory.
 pub fn write_faults_are_told<R: Threads + Wait + Sync>(
     rt: &R,
     alloc: Global,
@@ -133,7 +135,7 @@ fn seen_by(sink: &MemorySink, status: u8, case: &Case, whole: &[u8], kept: usize
 }
 
 /// Whether the case's script, cut after each of its line feeds, is a script, and gives the same text without its last
-/// line feed.
+/// line feed. The only error is running out of memory.
 pub fn cuts_are_told<R: Threads + Wait + Sync>(
     rt: &R,
     alloc: Global,
@@ -162,7 +164,7 @@ fn is_cut_told<R: Threads + Wait + Sync>(
     Ok(cut.ends_with(b"end\n".as_slice()) && unended == cut)
 }
 
-/// Whether words that are no command are answered with `usage` and status 2.
+/// Whether words that are no command are answered with `usage` and status 2. The only error is running out of memory.
 pub fn other_words_are_told<R: Threads + Wait + Sync>(
     rt: &R,
     alloc: Global,
@@ -173,7 +175,8 @@ pub fn other_words_are_told<R: Threads + Wait + Sync>(
     Ok(status == 2 && sink.held() == b"usage\n".as_slice())
 }
 
-/// Whether an input of a byte too many is answered with `too long` and status 7.
+/// Whether an input of a byte too many is answered with `too long` and status 7. The only error is running out of
+/// memory.
 pub fn long_input_is_told<R: Threads + Wait + Sync>(
     rt: &R,
     alloc: Global,

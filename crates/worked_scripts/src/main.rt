@@ -1,12 +1,15 @@
-//! Runs the program on worked scripts, and says of each whether its status and its text are those that were worked out by hand.
+//! Runs the program on worked scripts, and says of each whether its status and its text are those that were worked out
+//! by hand.
 //!
-//! Standard input has three tables: first the cases, behind a line `@table steps` the rows of [`step_rows`], and behind a line
-//! `@table scripts` those of [`script_rows`]. Their verdicts are printed in this order. Of a table without lines nothing is told.
+//! Standard input has three tables: first the cases, behind a line `@table steps` the rows of [`step_rows`], and behind
+//! a line `@table scripts` those of [`script_rows`]. Their verdicts are printed in this order. Of a table without lines
+//! nothing is told.
 //!
-//! In the table of cases a line `@case STATUS ABOUT` begins one of `replay`, and `@trace`, `@check`, `@run`, `@stream` and
-//! `@reads` with the same words one of that command; the lines after it are its script. `@part` begins lines that have to stand in
-//! the text that the program writes, one after the other, `@whole` the whole text, `@sessions` what the lanes of a run have to come
-//! to, and `@end` ends the case. Each case is run over sources and sinks of several piece sizes. A table that hasn't this form fails.
+//! In the table of cases a line `@case STATUS ABOUT` begins one of `replay`, and `@trace`, `@check`, `@run`, `@stream`
+//! and `@reads` with the same words one of that command. The lines after it are its script. `@part` begins lines that
+//! have to stand in the text that the program writes, one after the other, and `@whole` the whole text. `@sessions`
+//! begins what the lanes of a run have to come to, and `@end` ends the case. Each case is run over sources and sinks of
+//! several piece sizes. A table that hasn't this form fails.
 #![tactic(auto)]
 
 mod cases;

@@ -11,7 +11,8 @@ use std::thread::Threads;
 /// More bytes than any text has.
 const ROOM: usize = 1_000_000;
 
-/// Whether the program answers the case's status and writes its parts, in whatever pieces its input and its output come.
+/// Whether the program answers the case's status and writes its parts, in whatever pieces its input and its output
+/// come. The only error is running out of memory.
 pub fn gives_what_is_expected<R: Threads + Wait + Sync>(
     rt: &R,
     alloc: Global,
@@ -62,7 +63,7 @@ fn are_in(alloc: Global, text: &[u8], wanted: &[Wanted]) -> Result<bool, AllocEr
     Ok(passed)
 }
 
-/// A source of these bytes that gives so many a call, of which one may fail.
+/// A source of these bytes that gives so many a call, of which one may fail. The only error is running out of memory.
 pub fn source_of(
     alloc: Global,
     script: &[u8],
@@ -74,7 +75,7 @@ pub fn source_of(
     Ok(MemorySource::new(bytes, piece.max(1), calls_of(alloc, fails)?))
 }
 
-/// A sink that takes so many bytes a call, of which one may fail.
+/// A sink that takes so many bytes a call, of which one may fail. The only error is running out of memory.
 pub fn sink_of(alloc: Global, piece: usize, fails: Option<u64>) -> Result<MemorySink, AllocError> {
     MemorySink::new(alloc, ROOM, piece, calls_of(alloc, fails)?)
 }
@@ -87,7 +88,7 @@ fn calls_of(alloc: Global, call: Option<u64>) -> Result<Vec<u64>, AllocError> {
     Ok(calls)
 }
 
-/// The status of the program on one word.
+/// The status of the program on one word. The only error is running out of memory.
 pub fn status_of<R: Threads + Wait + Sync, S: Source, K: Sink>(
     rt: &R,
     alloc: Global,

@@ -5,7 +5,8 @@ use std::alloc::{AllocError, Global};
 use step_kinds::Plan;
 use step_kinds::limits::MOST_SCRIPT_BYTES;
 
-/// The fault of a script, as [`fault_of`] has it, or the numbers of its plan, `plan PAIRS DEVICES STEPS TRAFFIC`.
+/// The fault of a script, as [`fault_of`] has it, or the numbers of its plan, `plan PAIRS DEVICES STEPS TRAFFIC`. The
+/// only error is running out of memory for the text.
 pub fn answer_of(alloc: Global, script: &[u8]) -> Result<String, AllocError> {
     if script.len() > MOST_SCRIPT_BYTES {
         return String::from_str(alloc, "too long");
@@ -17,8 +18,8 @@ pub fn answer_of(alloc: Global, script: &[u8]) -> Result<String, AllocError> {
     }
 }
 
-/// `line NUMBER word WORD CAUSE`, and ` LEAST to MOST` where the word should spell a number of a range. Word 0 stands for
-/// the line as a whole.
+/// `line NUMBER word WORD CAUSE`, and ` LEAST to MOST` where the word should spell a number of a range. Word 0 stands
+/// for the line as a whole.
 fn fault_of(alloc: Global, fault: ScriptFault) -> Result<String, AllocError> {
     let ScriptFault { line, fault } = fault;
     let word = fault.word;

@@ -1,8 +1,8 @@
 //! Reads scripts, and says of each whether its plan or its fault is the one that was worked out by hand from the rules.
 //!
-//! A line `@ ANSWER: ABOUT` begins a row, and the lines after it are its script. ANSWER is `line NUMBER word WORD CAUSE` of a
-//! fault, with `LEAST to MOST` after it where the word should spell a number of a range, or `plan PAIRS DEVICES STEPS TRAFFIC`
-//! with how many of each a plan has.
+//! A line `@ ANSWER: ABOUT` begins a row, and the lines after it are its script. ANSWER is
+//! `line NUMBER word WORD CAUSE` of a fault, with `LEAST to MOST` after it where the word should spell a number of a
+//! range, or `plan PAIRS DEVICES STEPS TRAFFIC` with how many of each a plan has.
 
 use crate::script_answers::answer_of;
 use std::alloc::{AllocError, Global};

@@ -1,8 +1,9 @@
-//! Replays scripts, and says of each whether the answers to its steps are those that were worked out by hand from the rules.
+//! Replays scripts, and says of each whether the answers to its steps are those that were worked out by hand from the
+//! rules.
 //!
-//! A line `@row ABOUT` begins a row, and the lines after it are its script, each with the answers that it has to give under it:
-//! a line `> ANSWER` for each. `= LINE` is a line of the report's end. A script line without such lines may be answered by
-//! whatever it is. `@let NAME` begins lines that `@use NAME` puts into a row.
+//! A line `@row ABOUT` begins a row, and the lines after it are its script, each with the answers that it has to give
+//! under it: a line `> ANSWER` for each. `= LINE` is a line of the report's end. A script line without such lines may
+//! be answered by whatever it is. `@let NAME` begins lines that `@use NAME` puts into a row.
 
 use crate::step_table::{Block, rows_of};
 use command_reply::Reply;
@@ -80,8 +81,8 @@ impl StepRow {
         Ok(())
     }
 
-    // Adds a line, and says to what a line `+ COUNT TEXT` after it adds its text: to an answer (`>`), to a line of the ending (`=`) or
-    // to the script.
+    // Adds a line, and says to what a line `+ COUNT TEXT` after it adds its text: to an answer (`>`), to a line of the
+    // ending (`=`) or to the script.
     fn take_line(&mut self, alloc: Global, last: char, line: &str) -> Result<char, AllocError> {
         if let Some(answer) = line.strip_prefix("> ") {
             self.take_answer(alloc, answer)?;
@@ -152,7 +153,8 @@ struct Came {
     ending: Vec<u8>,
 }
 
-// The first line in which the report of a row's script isn't what is wanted, beside the wanted one. Something is wanted in each row.
+// The first line in which the report of a row's script isn't what is wanted, beside the wanted one. Something is wanted
+// in each row.
 fn difference_of(alloc: Global, row: &StepRow) -> Result<Option<String>, AllocError> {
     let Some(reply) = reply_to(alloc, row)? else {
         return said(alloc, "it is no script and no load");
@@ -188,7 +190,8 @@ fn difference_in(
     Ok(None)
 }
 
-// Adds the lines of a report: the answers to some lines of the script, and all lines but the last one that are no answers.
+// Adds the lines of a report: the answers to some lines of the script, and all lines but the last one that are no
+// answers.
 fn take_report(came: &mut Came, lines: &[u32], report: &[u8]) -> Result<(), AllocError> {
     for line in std::str::from_utf8(report).unwrap_or("").lines() {
         match number_of(line) {

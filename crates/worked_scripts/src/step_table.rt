@@ -51,7 +51,8 @@ impl Table {
     }
 }
 
-/// The rows that these lines are. A row that takes in lines which no block before it has keeps its `@use`, which no script has.
+/// The rows that these lines are. A row that takes in lines which no block before it has keeps its `@use`, which no
+/// script has. The only error is running out of memory.
 pub fn rows_of(alloc: Global, lines: &[String]) -> Result<Vec<Block>, AllocError> {
     let mut table = Table {
         open: block_of(alloc, "")?,
@@ -81,8 +82,8 @@ fn block_of(alloc: Global, name: &str) -> Result<Block, AllocError> {
     })
 }
 
-// Adds a line to a block, or the lines that it takes in, once or several times. A line without words and one that begins with `#` are
-// none of it.
+// Adds a line to a block, or the lines that it takes in, once or several times. A line without words and one that
+// begins with `#` are none of it.
 fn take_line(
     alloc: Global,
     block: &mut Block,
@@ -106,7 +107,8 @@ fn take_line(
     Ok(())
 }
 
-// How often a line takes in lines, and their name: `@use NAME` once, `@times COUNT NAME` so many times, any other never.
+// How often a line takes in lines, and their name: `@use NAME` once, `@times COUNT NAME` so many times, any other
+// never.
 fn taken_in(line: &str) -> (u32, &str) {
     if let Some(name) = line.strip_prefix("@use ") {
         return (1, name);

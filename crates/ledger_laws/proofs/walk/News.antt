@@ -1,5 +1,6 @@
--- What the readers of the log of one lane learn of a step: room that it takes or gives, frames, sessions, what the receiver sees,
--- scratchpads, the lane's ring, and what happens to the lane. A step tells nothing but what its turn says.
+-- What the readers of the log of one lane learn of a step: room that it takes or gives, frames, sessions, and what the
+-- receiver sees. They also learn of scratchpads, of the lane's ring, and of what happens to the lane. A step tells
+-- nothing but what its turn says.
 use Rattle.std.specs.Prelude.{◌≡◌, ℕ, ◌-◌, ◌%◌, ◌==◌, Bool, false, Option, Some, List, [], ◌∷◌, map, slice_set, slice_index_or, if◌then◌else◌}
 use Rattle.step_kinds.specs.Bits.{has_bit}
 use Rattle.step_kinds.specs.Sides.{other_side}

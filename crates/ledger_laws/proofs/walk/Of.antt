@@ -1,4 +1,5 @@
--- Each step of a pair is one turn of each of its lanes: the only place where all steps are walked for what they do to lanes.
+-- Each step of a pair is one turn of each of its lanes: the only place where all steps are walked for what they do to
+-- lanes.
 use Rattle.std.proofs.Common.{◌≡◌, ℕ, true, false, List, ◌∷◌, length, refl, sym, ap, ◌∙◌}
 use Rattle.std.specs.Prelude.{bit_or}
 use Rattle.std.specs.List.{list_all}

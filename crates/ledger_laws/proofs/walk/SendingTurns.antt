@@ -162,7 +162,8 @@ module _ (plan : Plan) (lane : LaneName) (pair : PairPart) (reading : Reading) (
           ∙ ap (λ (s : Sight). record s { receiver = record Now.receiver { part = record Now.receiver.part { closed = with_bit Now.receiver.closed q } } }) (sight-off lane.from lane.queue pair (other_side lane.from) q _ is))
           (turned (Shuts Receiver q false) (tells_qpdown plan lane Now.lane p (other_side lane.from) q _ false (on-off lane p (other_side lane.from) q is)))
 
-  -- A write is posted, of this lane or of another: `Ready` says which, and `lane_then` is the lane that posts it by then
+  -- A write is posted, of this lane or of another: `Ready` says which, and `lane_then` is the lane that posts it by
+  -- then
   module _ (p : ℕ) (same_pair : p ≡ lane.pair) (label : Label) (later : List Label) (lane_then : Side → ℕ → LanePart) (Ready : Side → ℕ → Type 0)
       (on_it : (s : Side) (q : ℕ) → Ready s q → (on_queue q label ≡ true) × (list_all (on_queue q) later ≡ true))
       (same_hand : hand_of (lane_then lane.from lane.queue) ≡ hand_of Now.lane)

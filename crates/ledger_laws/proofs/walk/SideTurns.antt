@@ -1,4 +1,5 @@
--- The steps of a side: its link, its handshake, its registers, and what it writes by hand. Each is the turn of one end of a lane.
+-- The steps of a side: its link, its handshake, its registers, and what it writes by hand. Each is the turn of one end
+-- of a lane.
 use Rattle.std.proofs.Common.{◌≡◌, ℕ, ◌+◌, ◌==◌, Bool, true, false, None, length, refl, sym, ap, ◌∙◌, subst}
 use Rattle.std.specs.Prelude.{slice_index, slice_index_or, bit_and}
 use Rattle.std.proofs.lemmas.Bool.{not-false, and_parts}

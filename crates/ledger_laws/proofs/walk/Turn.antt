@@ -1,6 +1,6 @@
--- What a step can be for a lane: one constructor for each kind of thing that can happen to it, with what the step has passed in
--- a record, and with the sight after it in closed form. Steps on other lanes of the pair arrive as resting, as another lane's
--- write that is said or lands, or as a queue that is shut.
+-- What a step can be for a lane: one constructor for each kind of thing that can happen to it. What the step has passed
+-- stands there in a record, and the sight after it in closed form. Steps on other lanes of the pair arrive as resting,
+-- as another lane's write that is said or lands, or as a queue that is shut.
 use Rattle.std.specs.Prelude.{◌≡◌, ◌⊎◌, ℕ, ◌+◌, ◌==◌, ◌≤◌, Bool, true, false, Some, None, List, [], ◌∷◌, ◌++◌, length, map, remove, replicate, slice_get, slice_set, slice_index, slice_index_or, nat_lt, bit_and}
 use Rattle.step_kinds.specs.Bits.{has_bit, with_bit, without_bits}
 use Rattle.step_kinds.specs.declared.names.LaneName.{LaneName}
@@ -91,7 +91,8 @@ pub record MayJoin (s : Sight) (e : Role) (queue : ℕ) : Type 0 where
   pub ready : has_bit (end_at s e).ready queue ≡ true
   pub asked : has_bit (slice_index (end_at s e).pads links_pad) queue ≡ true
 
--- a frame of so many bytes, which needs so many entries, is begun on queue `q`. On a raw pair the bytes say whether there is room
+-- a frame of so many bytes, which needs so many entries, is begun on queue `q`. On a raw pair the bytes say whether
+-- there is room
 pub record MayBegin (raw : Bool) (sizes : Sizes) (q : ℕ) (s : Sight) (len needed : ℕ) : Type 0 where
   pub up : is_up s.state ≡ true
   pub joined : has_bit s.sender.joined q ≡ true
