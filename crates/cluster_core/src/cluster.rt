@@ -10,6 +10,8 @@ ghost use Rattle.step_kinds.specs.declared.steps.Step.{Step as MadeStep};
 ghost use Rattle.step_kinds.specs.declared.steps.Step.TheVariants.{Copy, Land, Xnext};
 ghost use Rattle.plan_model.specs.DeclaredPlans.{IsDeclared, IsPairOf, IsQueueOf};
 ghost use Rattle.plan_model.specs.Switches.{AreSwitches, IsMakeable};
+ghost use Rattle.bridge_pair.specs.Bridge.{flight_of};
+ghost use Rattle.fabric_core.specs.Fabric.{pair_of};
 ghost use Rattle.cluster_core.specs.Cluster.{plan_held};
 ghost use Rattle.cluster_core.specs.ClusterStep.{HasStepped};
 ghost use Rattle.cluster_core.specs.InFlight.{LandsNoneFrom, key_of, key_without};
@@ -279,7 +281,8 @@ impl Cluster {
     /// cluster has made, a `land` of that side at this place, or at a later one, is answered `nothing` after them.
     pub fn in_flight(&self, pair: u32, side: Side) -> usize
         requires { IsPairOf (plan_held self.now) pair }
-        ensures { LandsNoneFrom self.now pair side result }
+        ensures count { result ≡ length (flight_of (pair_of self.now.fabric pair).bridge side).writes }
+        ensures beyond { LandsNoneFrom self.now pair side result }
     {
         self.fabric.in_flight(pair, side)
     }

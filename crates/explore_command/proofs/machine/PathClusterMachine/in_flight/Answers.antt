@@ -7,4 +7,4 @@ use Rattle.explore_command.proofs.machine.PathClusterMachine.in_flight.Goals as 
 
 pub returns : goal.returns
 returns c = λ (plan : Plan) (steps : List Step) (place : ℕ) made beyond.
-    subst (λ (cluster : ClusterState). LandsNoneFrom cluster c.args.pair c.args.side c.in_flight.result) c.self.view_is c.in_flight.ensures plan steps made place beyond
+    subst (λ (cluster : ClusterState). LandsNoneFrom cluster c.args.pair c.args.side c.in_flight.result) c.self.view_is c.in_flight.ensures.beyond plan steps made place beyond
