@@ -1,0 +1,198 @@
+"""The rules of the house, and what the sources of the tools themselves have to be."""
+
+from __future__ import annotations
+
+import ast
+import re
+import shutil
+import subprocess
+import sys
+import unittest
+from pathlib import Path
+from typing import Iterator, Union
+
+from tests.answers import shown, wanted
+from tests.support import TOP
+
+TOOLS = TOP / "tools"
+Function = Union[ast.FunctionDef, ast.AsyncFunctionDef]
+MOST_FUNCTION, MOST_FRONT = 40, 3000
+
+
+def tool(*words: str) -> subprocess.CompletedProcess[str]:
+    """What a tool of the repository says."""
+    return subprocess.run([str(TOOLS / words[0]), *words[1:]], capture_output=True, text=True, cwd=TOP, check=False)
+
+
+def known_files() -> list[Path]:
+    """The files that git knows or would add."""
+    words = ["git", "ls-files", "-z", "--cached", "--others", "--exclude-standard"]
+    names = subprocess.run(words, capture_output=True, cwd=TOP, check=True).stdout.decode().split("\0")
+    return sorted({TOP / name for name in names if name and (TOP / name).is_file()})
+
+
+def first_line(path: Path) -> str:
+    """The first line of a file, where it is text."""
+    return path.read_bytes().split(b"\n", 1)[0].decode("latin-1")
+
+
+def begins(path: Path, pattern: str) -> bool:
+    """Whether a file has no ending, and its first line begins so."""
+    return not path.suffix and re.match(pattern, first_line(path)) is not None
+
+
+def python_files() -> list[Path]:
+    """The files in Python: by their ending, or by the first line of a file without one."""
+    return [path for path in known_files() if path.suffix == ".py" or begins(path, r"#!.*python3")]
+
+
+def shell_files() -> list[Path]:
+    """The files in shell, in the same way."""
+    return [path for path in known_files() if path.suffix == ".sh" or begins(path, r"#!/bin/(ba)?sh")]
+
+
+def tree_of(path: Path) -> ast.Module:
+    """A file's text, as Python 3.9 reads it."""
+    return ast.parse(path.read_text(encoding="utf-8"), str(path), feature_version=(3, 9))
+
+
+def functions(path: Path) -> Iterator[Function]:
+    """The functions of a file."""
+    return (node for node in ast.walk(tree_of(path)) if isinstance(node, (ast.FunctionDef, ast.AsyncFunctionDef)))
+
+
+def bare_arguments(function: Function) -> list[str]:
+    """The arguments that have no annotation, self and cls aside."""
+    has = function.args
+    named = [*has.posonlyargs, *has.args, *has.kwonlyargs, *filter(None, [has.vararg, has.kwarg])]
+    return [each.arg for each in named if each.annotation is None and each.arg not in ("self", "cls")]
+
+
+def is_typed(path: Path) -> bool:
+    """Whether a file's functions have to be annotated and short: of the front, the tests, benches and soaks."""
+    folder = path.parent.name
+    return folder in ("ntbview", "tests") or path == TOOLS / "check" or path.name.startswith(("bench", "soak-"))
+
+
+class Rules(unittest.TestCase):
+    """The tools that keep the rules on the sources that no prover looks at."""
+
+    def test_house(self) -> None:
+        """tools/house finds nothing beyond its lists."""
+        done = tool("house")
+        found = "\n".join(line for line in done.stdout.splitlines() if " allowed by " not in line)
+        self.assertEqual((done.returncode, found), (0, ""), done.stderr)
+
+    def test_headline(self) -> None:
+        """What a reader of the headline has to read names no other file of a machine, and stands in docs/MODEL.md."""
+        done = tool("headline")
+        self.assertEqual((done.returncode, done.stderr), (0, ""))
+        there = (TOP / "docs" / "MODEL.md").read_text(encoding="utf-8").split("\n")
+        for line in done.stdout.splitlines():
+            with self.subTest(line):
+                self.assertIn(line, there)
+
+    def test_wrong_definitions(self) -> None:
+        """The wrong definitions can still be made in the sources."""
+        done = tool("wrong-definitions", "--fits")
+        self.assertEqual(done.returncode, 0, done.stdout + done.stderr)
+        self.assertRegex(done.stdout, r", 0 don't\n")
+
+    def test_wrong_bodies(self) -> None:
+        """The wrong bodies can still be made in the sources."""
+        done = tool("wrong-bodies", "--fits")
+        self.assertEqual(done.returncode, 0, done.stdout + done.stderr)
+
+
+class Python(unittest.TestCase):
+    """The files in Python."""
+
+    def test_version(self) -> None:
+        """Python 3.9 reads them."""
+        self.assertTrue(python_files())
+        for path in python_files():
+            with self.subTest(shown(path)):
+                tree_of(path)
+
+    def test_annotations(self) -> None:
+        """Each function of the front and of the tests has its arguments and its result annotated."""
+        for path in filter(is_typed, python_files()):
+            with self.subTest(shown(path)):
+                bare = [f"{each.name}: {', '.join(bare_arguments(each)) or 'result'}" for each in functions(path)
+                        if bare_arguments(each) or each.returns is None]
+                self.assertEqual(bare, [])
+
+    def test_lengths(self) -> None:
+        """None of them has more than 40 lines."""
+        for path in filter(is_typed, python_files()):
+            with self.subTest(shown(path)):
+                lengths = {each.name: (each.end_lineno or 0) - each.lineno + 1 for each in functions(path)}
+                self.assertEqual({name: length for name, length in lengths.items() if length > MOST_FUNCTION}, {})
+
+    def test_columns(self) -> None:
+        """Their lines have at most 120 columns."""
+        for path in filter(is_typed, python_files()):
+            with self.subTest(shown(path)):
+                lines = path.read_text(encoding="utf-8").split("\n")
+                self.assertEqual([number for number, line in enumerate(lines, 1) if len(line) > 120], [])
+
+    def test_size(self) -> None:
+        """The front, page and tests not counted, has fewer than 3,000 lines."""
+        paths = [TOP / "ntbsim", TOOLS / "program.sh", *(TOOLS / "ntbview").glob("*.py")]
+        counts = {shown(path): path.read_bytes().count(b"\n") for path in sorted(paths)}
+        self.assertLess(sum(counts.values()), MOST_FRONT, counts)
+
+    def test_libraries(self) -> None:
+        """The front stands on the standard library alone."""
+        known = getattr(sys, "stdlib_module_names", None)
+        if known is None:
+            self.skipTest("this Python doesn't list its own modules, so imports aren't looked at")
+        for path in (TOOLS / "ntbview").glob("*.py"):
+            with self.subTest(shown(path)):
+                roots = {name.split(".")[0] for node in ast.walk(tree_of(path)) for name in imported(node)}
+                self.assertEqual(roots - set(known) - {"ntbview"}, set())
+
+
+def imported(node: ast.AST) -> list[str]:
+    """The modules that a node of a tree imports by their whole names."""
+    if isinstance(node, ast.Import):
+        return [alias.name for alias in node.names]
+    return [node.module] if isinstance(node, ast.ImportFrom) and node.module and not node.level else []
+
+
+class Shell(unittest.TestCase):
+    """The files in shell, and that none is in another such language."""
+
+    def test_no_awk(self) -> None:
+        """No tool is written in awk or calls it."""
+        for path in known_files():
+            if TOOLS in path.parents or path in (TOP / "ntbsim", TOP / "Makefile"):
+                with self.subTest(shown(path)):
+                    self.assertNotEqual(path.suffix, ".awk")
+                    if path != Path(__file__).resolve():
+                        self.assertNotRegex(path.read_bytes(), rb"(?i)\b[gmn]?awk\b")
+
+    def test_syntax(self) -> None:
+        """Each shell that is here reads them."""
+        self.assertTrue(shell_files())
+        for shell in ("sh", "dash", "bash"):
+            program = shutil.which(shell)
+            for path in shell_files() if program else []:
+                if shell == "bash" or "bash" not in first_line(path):
+                    with self.subTest(f"{shell} -n {shown(path)}"):
+                        done = subprocess.run([program, "-n", str(path)], capture_output=True, check=False)
+                        self.assertEqual((done.returncode, done.stderr), (0, b""))
+
+    def test_shellcheck(self) -> None:
+        """shellcheck finds nothing in them."""
+        program = wanted("shellcheck", ", so scripts in shell aren't looked at")
+        for path in shell_files():
+            with self.subTest(shown(path)):
+                kind = "bash" if "bash" in first_line(path) else "sh"
+                words = [program, "-s", kind, "-x", "-P", "SCRIPTDIR", str(path)]
+                done = subprocess.run(words, capture_output=True, text=True, cwd=TOP, check=False)
+                self.assertEqual(done.stdout, "")
+
+
+if __name__ == "__main__":
+    unittest.main()
