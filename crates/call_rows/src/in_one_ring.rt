@@ -35,7 +35,7 @@ pub enum LaneRow {
     LostWriteNeverLands,
 }
 
-/// Whether a strict lane with a ring of two entries shows what the row says. The only error is running out of memory.
+/// Whether a strict lane with a ring of two entries shows what the row says. It may be out of memory.
 pub fn is_shown(alloc: Global, row: LaneRow) -> Result<bool, AllocError> {
     let mut lane = Lane::new(alloc, 0, 2, 1011, true)?;
     shows(alloc, &mut lane, row)

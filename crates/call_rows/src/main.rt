@@ -1,22 +1,27 @@
-//! Makes public calls that take memory and that no other program makes. Of each answer it says whether it is the one
-//! that was worked out by hand from the definitions.
+//! Makes public calls that no other program makes, or not with these answers. Of each answer it says whether it is the
+//! one that was worked out by hand from the definitions.
 #![tactic(auto)]
 
 mod in_one_ring;
+mod of_ends;
 mod of_loads;
 mod of_passes;
 mod of_queues;
 mod of_reports;
+mod of_versions;
 mod of_worlds;
 
 use in_one_ring::{LaneRow, is_shown};
+use of_ends::{EndsRow, ends_show};
 use of_loads::load_has_its_steps;
 use of_passes::one_of_two_frames_goes_round;
 use of_queues::begun_frame_is_posted;
 use of_reports::report_has_its_lines;
-use of_worlds::all_items_come;
+use of_versions::versions_wrap;
+use of_worlds::{all_items_come, second_session_begins_again};
 use std::alloc::{AllocError, Global};
 use std::test::Fail;
+use std::thread::Threads;
 
 /// What a row shows.
 #[derive(Clone, Copy)]
@@ -24,37 +29,49 @@ enum Row {
     OfLane(LaneRow),
     LoadHasItsSteps,
     AllItemsCome,
+    SecondSessionBeginsAgain,
     OneOfTwoFramesGoesRound,
+    OfEnds(EndsRow),
     BegunFrameIsPosted,
+    VersionsWrap,
     ReportHasItsLines,
 }
 
-const ROWS: [Row; 8] = [
+const ROWS: [Row; 14] = [
     Row::OfLane(LaneRow::FrameComesWhole),
     Row::OfLane(LaneRow::LinkDownEntryStays),
     Row::OfLane(LaneRow::LostWriteNeverLands),
     Row::LoadHasItsSteps,
     Row::AllItemsCome,
+    Row::SecondSessionBeginsAgain,
     Row::OneOfTwoFramesGoesRound,
+    Row::OfEnds(EndsRow::FullRingRefuses),
+    Row::OfEnds(EndsRow::EntryIsGivenBack),
+    Row::OfEnds(EndsRow::CutLaneRefuses),
+    Row::OfEnds(EndsRow::ThreadsKeepOrder),
     Row::BegunFrameIsPosted,
+    Row::VersionsWrap,
     Row::ReportHasItsLines,
 ];
 
 fn main(rt: HostRuntime) -> Result<(), Fail> {
     for row in ROWS.as_slice() {
-        let word = word_of(has_passed(rt.alloc(), *row)?);
+        let word = word_of(has_passed(&rt, rt.alloc(), *row)?);
         println!(rt; "{word}: {}", text_of(*row))?;
     }
     Ok(())
 }
 
-fn has_passed(alloc: Global, row: Row) -> Result<bool, AllocError> {
+fn has_passed<R: Threads + Sync>(rt: &R, alloc: Global, row: Row) -> Result<bool, AllocError> {
     match row {
         Row::OfLane(row) => is_shown(alloc, row),
         Row::LoadHasItsSteps => load_has_its_steps(alloc),
         Row::AllItemsCome => all_items_come(alloc),
+        Row::SecondSessionBeginsAgain => second_session_begins_again(alloc),
         Row::OneOfTwoFramesGoesRound => one_of_two_frames_goes_round(alloc),
+        Row::OfEnds(row) => ends_show(rt, alloc, row),
         Row::BegunFrameIsPosted => begun_frame_is_posted(alloc),
+        Row::VersionsWrap => Ok(versions_wrap()),
         Row::ReportHasItsLines => report_has_its_lines(alloc),
     }
 }
@@ -68,8 +85,19 @@ fn text_of(row: Row) -> &'static str {
         Row::OfLane(LaneRow::LostWriteNeverLands) => "What is posted on a lost link never lands.",
         Row::LoadHasItsSteps => "A load of one frame has its steps.",
         Row::AllItemsCome => "Both items come, although a session is lost.",
+        Row::SecondSessionBeginsAgain => "An item of a lost session is old in the next one.",
         Row::OneOfTwoFramesGoesRound => "Of two frames one goes round before the link is cut.",
+        Row::OfEnds(EndsRow::FullRingRefuses) => {
+            "A ring of four takes three frames, and refuses a fourth."
+        }
+        Row::OfEnds(EndsRow::EntryIsGivenBack) => {
+            "A ring of two takes a frame again once its entry is given back."
+        }
+        Row::OfEnds(EndsRow::CutLaneRefuses) => "A frame comes back from a lane that is cut.",
+        Row::OfEnds(EndsRow::ThreadsKeepOrder) =>
+            "Three ends in threads carry three frames in order.",
         Row::BegunFrameIsPosted => "A frame is begun once, and its five writes are posted.",
+        Row::VersionsWrap => "The version of entry 2^32 is 0 again.",
         Row::ReportHasItsLines => "A report has a line for each answer and lane, and ends.",
     }
 }

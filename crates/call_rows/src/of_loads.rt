@@ -4,8 +4,8 @@ use std::alloc::{AllocError, Global};
 use step_kinds::{LaneName, Plan, Side};
 use traffic_plan::{generate, lane_traffic};
 
-/// Whether a load of one frame of 66 bytes, which seed 1 gives, has its 24 steps, and no traffic on its lane. The only
-/// error is running out of memory.
+/// Whether a load of one frame of 66 bytes, which seed 1 gives, has its 24 steps, and no traffic on its lane. It may
+/// be out of memory.
 pub fn load_has_its_steps(alloc: Global) -> Result<bool, AllocError> {
     let plan = generate(alloc, 1, 1)?;
     has_its_steps(alloc, &plan)

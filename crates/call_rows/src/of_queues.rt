@@ -21,9 +21,9 @@ fn new_pair(alloc: Global) -> Result<Pair, AllocError>
 }
 
 // The queue of its side A.
-fn new_queue(alloc: Global, pair: &Pair) -> Result<QueuePair, AllocError>
+fn new_queue(alloc: Global, pair: &Pair) -> QueuePair
     requires { pair.now.plan ≡ load_pair }
-    ensures { IfOk result (λ queue. queue ≡ fresh_queue load_pair A 0) }
+    ensures { result ≡ fresh_queue load_pair A 0 }
 {
     QueuePair::new(alloc, pair.plan(), Side::A, 0)
 }
@@ -58,7 +58,7 @@ const WRITES: [Label; 5] = [
 ];
 
 /// Whether a frame of one byte is begun on a pair that starts up, and its five writes are posted in order. Before that
-/// another begin has to be refused, and after it nothing may be left to post. The only error is running out of memory.
+/// another begin has to be refused, and after it nothing may be left to post. It may be out of memory.
 pub fn begun_frame_is_posted(alloc: Global) -> Result<bool, AllocError> {
     let mut pair = new_pair(alloc)?;
     is_posted_on(alloc, &mut pair)
@@ -68,7 +68,7 @@ pub fn begun_frame_is_posted(alloc: Global) -> Result<bool, AllocError> {
 fn is_posted_on(alloc: Global, pair: &mut Pair) -> Result<bool, AllocError>
     requires { pair.old.plan ≡ load_pair }
 {
-    let mut queue = new_queue(alloc, pair)?;
+    let mut queue = new_queue(alloc, pair);
     is_posted(alloc, &mut queue, pair)
 }
 

@@ -1,8 +1,8 @@
-//! A row of the two ends of a resumable stream.
+//! Rows of the two ends of a resumable stream.
 
 ghost use Rattle.std.specs.Prelude.{◌≡◌, length, IfOk};
 
-use resume_stream::{StreamEvent, run_world};
+use resume_stream::{StreamEvent, StreamReceiver, StreamSender, TakeAnswer, run_world};
 use std::alloc::{AllocError, Global};
 use step_kinds::{Frame, FrameList};
 
@@ -35,7 +35,7 @@ const LOST: [StreamEvent; 12] = [
     StreamEvent::Carry,
 ];
 
-/// Whether both items come once, in order, although a session is lost. The only error is running out of memory.
+/// Whether both items come once, in order, although a session is lost. It may be out of memory.
 pub fn all_items_come(alloc: Global) -> Result<bool, AllocError> {
     let (_sender, receiver) = run_world(alloc, both(alloc)?, &LOST)?;
     let items = receiver.into_items();
@@ -44,4 +44,44 @@ pub fn all_items_come(alloc: Global) -> Result<bool, AllocError> {
             && items.frame_at(0).bytes() == b"a".as_slice()
             && items.frame_at(1).bytes() == b"b".as_slice(),
     )
+}
+
+/// Whether the second session of two ends begins again where the first one did, which was lost before anything was
+/// acknowledged. The item that the receiver has is old there, and after the last item the sender gives none. It may
+/// be out of memory.
+pub fn second_session_begins_again(alloc: Global) -> Result<bool, AllocError> {
+    let mut sender = StreamSender::new(alloc, both(alloc)?);
+    let mut receiver = StreamReceiver::new(alloc);
+    begins_again(&mut sender, &mut receiver)
+}
+
+// Whether both ends do so.
+fn begins_again(
+    sender: &mut StreamSender,
+    receiver: &mut StreamReceiver,
+) -> Result<bool, AllocError> {
+    let first_start = is_taken(sender, receiver, TakeAnswer::Start)?;
+    let kept = is_taken(sender, receiver, TakeAnswer::Kept { number: 0 })?;
+    sender.new_session();
+    receiver.new_session();
+    let second_start = is_taken(sender, receiver, TakeAnswer::Start)?;
+    let old = is_taken(sender, receiver, TakeAnswer::Old { number: 0 })?;
+    let next_kept = is_taken(sender, receiver, TakeAnswer::Kept { number: 1 })?;
+    let ends = sender.next_frame()?.is_none();
+    Ok(first_start && kept && second_start && old && next_kept && ends)
+}
+
+// Whether the sender's next frame is taken with this answer. The receiver keeps one item at most before it.
+fn is_taken(
+    sender: &mut StreamSender,
+    receiver: &mut StreamReceiver,
+    answer: TakeAnswer,
+) -> Result<bool, AllocError> {
+    if receiver.items().len() > 1 {
+        return Ok(false);
+    }
+    match sender.next_frame()? {
+        Some(frame) => Ok(receiver.take(frame)? == answer),
+        None => Ok(false),
+    }
 }

@@ -9,7 +9,7 @@ use Rattle.step_kinds.specs.declared.steps.Step.{Step}
 use Rattle.step_kinds.specs.declared.steps.Step.TheVariants.{Copy, Relay, Xbegin, Xnext}
 use Rattle.ledger_model.specs.Log.{Answered, Memories}
 use Rattle.ledger_laws.proofs.Facade.{log_of-last}
-use Rattle.ledger_laws.specs.Laws.{is_made}
+use Rattle.step_kinds.specs.Answers.{is_made}
 use Rattle.memory_model.specs.Memory.{memory_of}
 use Rattle.fabric_core.specs.LogClauses.{IsAnswered as IsAnsweredOnBridges}
 use Rattle.fabric_core.specs.Refusals.{counts_refusals}

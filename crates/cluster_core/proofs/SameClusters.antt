@@ -3,7 +3,7 @@ use Rattle.std.proofs.Common.{◌≡◌, ◌∙◌, ◌++◌, ◌∷◌, [], ℕ
 use Rattle.step_kinds.specs.declared.names.Side.{Side}
 use Rattle.step_kinds.specs.declared.plan.Plan.{Plan}
 use Rattle.step_kinds.specs.declared.steps.Answer.{Answer}
-use Rattle.step_kinds.specs.declared.steps.Answer.TheVariants.{Nothing}
+use Rattle.step_kinds.specs.declared.steps.Answer.TheVariants.{Landed, Nothing}
 use Rattle.step_kinds.specs.declared.steps.Step.{Step}
 use Rattle.step_kinds.specs.declared.steps.Step.TheVariants.{Land}
 use Rattle.fabric_core.specs.InFlight.{LandsNoneFrom as LandsNoneOnBridges}
@@ -12,10 +12,10 @@ use Rattle.memory_model.specs.Memory.{memory_of}
 use Rattle.switch_log.specs.Log.{answer_after}
 use Rattle.switch_log.specs.Network.{Network}
 use Rattle.fabric_core.specs.LogClauses.{HasMade as HasMadeOnBridges, IsAnswered as IsAnsweredOnBridges, log_after as log_on_bridges}
-use Rattle.fabric_core.proofs.Facade.{one_list_makes_same, same_has_made_same, same_keys as same_fabrics_keys}
+use Rattle.fabric_core.proofs.Facade.{key_once_landed as key_on_bridges, one_list_makes_same, same_has_made_same, same_keys as same_fabrics_keys}
 use Rattle.cluster_core.specs.Cluster.{ClusterState, plan_held}
 use Rattle.cluster_core.specs.InFlight.{LandsNoneFrom}
-use Rattle.cluster_core.specs.Laws.{OneAnswer, SameKeys, SameSteps}
+use Rattle.cluster_core.specs.Laws.{KeyOnceLanded, OneAnswer, SameKeys, SameSteps}
 use Rattle.cluster_core.specs.LogClauses.{HasMade, IsNetwork, network_after}
 use Rattle.cluster_core.proofs.Networks.{network-last}
 use Rattle.cluster_core.proofs.RefusedAgain.{answer_on_bridges, item_answer}
@@ -91,6 +91,12 @@ module _ (plan : Plan) (steps : List Step) (pair : ℕ) (side : Side) (place : �
       let net = network_after plan steps in
       log_of-last plan (memory_of plan) net.steps (Land pair side place)
       ∙ ap (λ (answer : Answer). log_on_bridges plan net.steps ++ record { step = Land pair side place; answer = answer } ∷ []) is
+
+-- the key without a write is that of the fabric on which it has landed
+pub key_once_landed : KeyOnceLanded
+key_once_landed plan steps pair side place label cluster after made answered owns =
+    key_on_bridges plan (network_after plan steps).steps pair side place label cluster.fabric after.fabric made.bridges (answered_on_bridges plan steps pair side place (Landed label) answered)
+    (bridges_landed plan steps pair side place after owns)
 
 -- From a place on nothing lands
 

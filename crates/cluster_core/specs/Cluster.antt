@@ -2,7 +2,7 @@
 use Rattle.std.specs.Prelude.{List}
 use Rattle.step_kinds.specs.declared.plan.Plan.{Plan}
 use Rattle.step_kinds.specs.declared.plan.SwitchPlan.{SwitchPlan}
-use Rattle.fabric_core.specs.Fabric.{FabricState, plan_kept}
+use Rattle.fabric_core.specs.Fabric.{FabricState, plain as plain_fabric, plan_kept}
 use Rattle.learn_switch.specs.Frames.{Bytes}
 
 pub record ClusterState : Type 0 where
@@ -13,3 +13,7 @@ pub record ClusterState : Type 0 where
 -- the plan of its pairs, devices and switches
 abbrev pub plan_held : ClusterState → Plan
 plan_held cluster = record (plan_kept cluster.fabric) { switches = cluster.plans }
+
+-- the same cluster, room and pages that are promised aside
+abbrev pub plain : ClusterState → ClusterState
+plain cluster = record cluster { fabric = plain_fabric cluster.fabric }

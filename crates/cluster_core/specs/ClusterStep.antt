@@ -1,5 +1,5 @@
 -- What a step of a cluster comes to: its contract, over the cluster before and after it.
-use Rattle.std.specs.Prelude.{◌≡◌, ◌≢◌, ℕ, false, List, [], ◌∷◌, ◌++◌, IfOk, OnErr, OnOk, Result}
+use Rattle.std.specs.Prelude.{◌≡◌, ◌≢◌, ℕ, false, true, List, [], ◌∷◌, ◌++◌, IfOk, IsErr, OnErr, OnOk, Result}
 use Rattle.step_kinds.specs.declared.names.Side.{Side}
 use Rattle.step_kinds.specs.declared.plan.Plan.{Plan}
 use Rattle.step_kinds.specs.declared.steps.Answer.{Answer}
@@ -7,9 +7,11 @@ use Rattle.step_kinds.specs.declared.steps.Answer.TheVariants.{Landed}
 use Rattle.step_kinds.specs.declared.steps.Label.{Label}
 use Rattle.step_kinds.specs.declared.steps.Step.{Step}
 use Rattle.step_kinds.specs.declared.steps.Step.TheVariants.{Land}
-use Rattle.cluster_core.specs.Cluster.{ClusterState, plan_held}
+use Rattle.step_kinds.specs.Answers.{is_made}
+use Rattle.cluster_core.specs.Cluster.{ClusterState, plain, plan_held}
 use Rattle.cluster_core.specs.LogClauses.{HasMade, IsAnswered}
-use Rattle.cluster_core.specs.Parts.{may_arrive}
+use Rattle.cluster_core.specs.Refusals.{refused_in}
+use Rattle.cluster_core.specs.Wants.{IsWantedAfter, may_want_memory, sends_waiting}
 
 -- whatever steps of a plan it had made before
 pub record HasStepped {E : Type 0} (old new : ClusterState) (step : Step) (result : Result Answer E) : Type 0 where
@@ -17,8 +19,17 @@ pub record HasStepped {E : Type 0} (old new : ClusterState) (step : Step) (resul
   pub answered : (plan : Plan) (steps : List Step) → HasMade plan steps old → IfOk result (λ answer. IsAnswered plan steps step answer)
   -- then it has made them and this one
   pub made : (plan : Plan) (steps : List Step) → HasMade plan steps old → OnOk result (HasMade plan (steps ++ step ∷ []) new)
-  -- where it is out of memory it has made the same steps, unless the step is one by which a frame may arrive at a port
-  pub still_made : (plan : Plan) (steps : List Step) → HasMade plan steps old → may_arrive step ≡ false → OnErr result (HasMade plan steps new)
+  -- a step that is refused leaves all as it was, promises aside, but for a device's count of refusals and what an idle
+  -- port lets go
+  pub refused : IfOk result (λ answer. is_made answer ≡ false → plain new ≡ plain (refused_in old step))
+  -- where it is out of memory it has made the same steps, and nothing but promises of room and pages changed
+  pub still_made : (plan : Plan) (steps : List Step) → HasMade plan steps old → OnErr result (HasMade plan steps new)
+  pub err : OnErr result (plain new ≡ plain old)
+  -- of the steps that may want memory alone
+  pub wants : IsErr result → may_want_memory old step ≡ true
+  -- and, but for an xnext, only where the log of those steps answers it with no refusal, or where a device has as many
+  -- refusals as it can count
+  pub border : (plan : Plan) (steps : List Step) → HasMade plan steps old → sends_waiting step ≡ false → OnErr result (IsWantedAfter plan steps old step)
   -- after a landing that lands nothing it has made the same steps too
   pub rests : (plan : Plan) (steps : List Step) → HasMade plan steps old → (pair : ℕ) (side : Side) (place : ℕ) → step ≡ Land pair side place →
       IfOk result (λ answer. ((label : Label) → answer ≢ Landed label) → HasMade plan steps new)

@@ -1,10 +1,14 @@
 -- The laws of the clusters that have made a list of steps.
-use Rattle.std.specs.Prelude.{◌≡◌, List}
+use Rattle.std.specs.Prelude.{◌≡◌, ℕ, List, [], ◌∷◌, ◌++◌}
+use Rattle.step_kinds.specs.declared.names.Side.{Side}
 use Rattle.step_kinds.specs.declared.plan.Plan.{Plan}
 use Rattle.step_kinds.specs.declared.steps.Answer.{Answer}
+use Rattle.step_kinds.specs.declared.steps.Answer.TheVariants.{Landed}
+use Rattle.step_kinds.specs.declared.steps.Label.{Label}
 use Rattle.step_kinds.specs.declared.steps.Step.{Step}
+use Rattle.step_kinds.specs.declared.steps.Step.TheVariants.{Land}
 use Rattle.cluster_core.specs.Cluster.{ClusterState}
-use Rattle.cluster_core.specs.InFlight.{key_of}
+use Rattle.cluster_core.specs.InFlight.{key_of, key_without}
 use Rattle.memory_model.specs.Memory.{memory_of}
 use Rattle.switch_log.specs.Log.{answer_after}
 use Rattle.cluster_core.specs.LogClauses.{HasMade, IsAnswered}
@@ -18,6 +22,13 @@ SameSteps = (plan : Plan) (common steps : List Step) (cluster other : ClusterSta
 abbrev pub SameKeys : Type 0
 SameKeys = (plan : Plan) (common : List Step) (cluster other : ClusterState) →
     HasMade plan common cluster → HasMade plan common other → key_of cluster ≡ key_of other
+
+-- Where a landing is answered `landed`, the key without that write is the key of each cluster that has made the same
+-- steps and the landing after them.
+abbrev pub KeyOnceLanded : Type 0
+KeyOnceLanded = (plan : Plan) (steps : List Step) (pair : ℕ) (side : Side) (place : ℕ) (label : Label) (cluster after : ClusterState) →
+    HasMade plan steps cluster → answer_after plan (memory_of plan) steps (Land pair side place) ≡ Landed label → HasMade plan (steps ++ Land pair side place ∷ []) after →
+    key_without cluster pair side place ≡ key_of after
 
 -- An answer that the log goes on with is the one that it gives to the step.
 abbrev pub OneAnswer : Type 0

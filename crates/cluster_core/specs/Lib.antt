@@ -7,3 +7,4 @@ pub mod LogClauses
 pub mod Moves
 pub mod Parts
 pub mod Refusals
+pub mod Wants

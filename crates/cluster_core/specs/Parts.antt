@@ -1,5 +1,5 @@
 -- Which part of a cluster makes a step, and the ports of its switches.
-use Rattle.std.specs.Prelude.{ℕ, ◌<◌, ◌≤◌, Bool, true, false, List, length, slice_index_or}
+use Rattle.std.specs.Prelude.{ℕ, ◌<◌, ◌≤◌, Bool, List, length, slice_index_or}
 use Rattle.std.specs.List.{All}
 use Rattle.step_kinds.specs.Limits.{most_ports}
 use Rattle.step_kinds.specs.declared.names.LaneName.{LaneName}
@@ -21,11 +21,6 @@ part_of (Relay pair side queue switch port) = Relays switch port
 part_of (Xnext pair side queue dev) = Sends (record { pair = pair; from = side; queue = queue })
 part_of (Copy pair side queue) = Copies (record { pair = pair; from = side; queue = queue })
 part_of step = OnBridges
-
--- a copy may deliver a frame that then arrives at a port
-abbrev pub may_arrive : Step → Bool
-may_arrive (Copy pair side queue) = true
-may_arrive step = false
 
 -- Ports
 

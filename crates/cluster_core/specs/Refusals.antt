@@ -1,12 +1,17 @@
--- Steps that are refused: made again at once, they are refused again.
+-- Steps that are refused: what they leave, and that they are refused again where they are made again at once.
 use Rattle.std.specs.Prelude.{◌≡◌, Bool, true, false, List, [], ◌∷◌, ◌++◌}
 use Rattle.step_kinds.specs.declared.plan.Plan.{Plan}
 use Rattle.step_kinds.specs.declared.steps.Answer.{Answer}
 use Rattle.step_kinds.specs.declared.steps.Step.{Step}
 use Rattle.step_kinds.specs.declared.steps.Step.TheVariants.{Relay, Xbegin, Xnext}
-use Rattle.ledger_laws.specs.Laws.{is_made}
+use Rattle.step_kinds.specs.Answers.{is_made}
+use Rattle.fabric_core.specs.Refusals.{refused_in as refused_on_bridges}
 use Rattle.cluster_core.specs.Cluster.{ClusterState}
 use Rattle.cluster_core.specs.LogClauses.{HasMade, IsAnswered}
+
+-- the cluster after a step that was refused: the same, but for what a fabric changes then
+abbrev pub refused_in : ClusterState → Step → ClusterState
+refused_in cluster step = record cluster { fabric = refused_on_bridges cluster.fabric step }
 
 -- a device counts the refusals of its frames, so these change something, and a switch makes its steps by itself
 abbrev pub is_plain : Step → Bool

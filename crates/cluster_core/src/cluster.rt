@@ -12,14 +12,15 @@ ghost use Rattle.plan_model.specs.DeclaredPlans.{IsDeclared, IsPairOf, IsQueueOf
 ghost use Rattle.plan_model.specs.Switches.{AreSwitches, IsMakeable};
 ghost use Rattle.bridge_pair.specs.Bridge.{flight_of};
 ghost use Rattle.fabric_core.specs.Fabric.{pair_of};
+ghost use Rattle.fabric_core.specs.FrameDue.{frame_due};
 ghost use Rattle.cluster_core.specs.Cluster.{plan_held};
 ghost use Rattle.cluster_core.specs.ClusterStep.{HasStepped};
 ghost use Rattle.cluster_core.specs.InFlight.{LandsNoneFrom, key_of, key_without};
 ghost use Rattle.memory_model.specs.Memory.{memory_of};
 ghost use Rattle.switch_log.specs.Log.{answer_after};
 ghost use Rattle.cluster_core.specs.LogClauses.{AreCounters, HasMade, IsAccepted, IsDelivered, IsSession};
-ghost use Rattle.cluster_core.specs.Moves.{CanBeSent, HasWaiting, arrived_in, brought_in, relay_answer_in, relayed_in, sending_in, sends_next, taken_in};
-ghost use Rattle.cluster_core.specs.Parts.{HasDeviceOn, IsPortAmong};
+ghost use Rattle.cluster_core.specs.Moves.{BringsFrame, CanBeSent, HasWaiting, arrived_in, brought_in, does_send, relay_answer_in, relay_goes_on, relayed_in, sending_in, sends_next, taken_in};
+ghost use Rattle.cluster_core.specs.Parts.{HasDeviceOn, IsPortAmong, port_seen};
 
 use crate::parts::{StepPart, part_of};
 use crate::plans::{copies, new_switches};
@@ -73,11 +74,16 @@ impl Cluster {
     /// - Each other step is made on the bridges alone. A frame that a copy delivers on a port's queue arrives at the
     ///   port.
     ///
+    /// A refusal leaves the cluster as it was, but for what [`Fabric::step`] names.
+    ///
     /// # Errors
     ///
     /// [`AllocError`] from out of memory, or where a count would pass 2^62, as from [`Fabric::step`]. The cluster has
-    /// made the same steps as before then, and the step can be made again. A copy is another matter: a frame that it
-    /// delivered to a port may be lost, and of the cluster's steps nothing more is promised.
+    /// made the same steps as before then, and the step can be made again: nothing but promised room and pages has
+    /// changed. It comes of few steps alone. On bridges they are those that [`Fabric::step`] names, and a copy that
+    /// delivers a frame to a port. They are a relay whose frame is to wait at another port, and an `xnext` where a
+    /// frame waits. But for an `xnext` the log doesn't refuse the step then, or it is a device's frame whose refusal
+    /// can't be counted.
     #[inline(always)]
     pub fn step(&mut self, step: &Step) -> Result<Answer, AllocError>
         requires { IsMakeable (plan_held self.old) step.now }
@@ -97,6 +103,7 @@ impl Cluster {
         ensures answer { IfOk result (λ answer. answer ≡ relay_answer_in self.old (record { switch = switch; place = port })) }
         ensures after { OnOk result (self.new ≡ relayed_in self.old (record { switch = switch; place = port })) }
         ensures err { OnErr result (self.new ≡ self.old) }
+        ensures wants { OnErr result (relay_goes_on self.old (record { switch = switch; place = port }) ≡ true) }
     {
         let relayed = self.switches[switch as usize].relay(port)?;
         Ok(relay_answer(relayed))
@@ -147,6 +154,7 @@ impl Cluster {
     fn next_frame(&self, own: LaneName) -> Result<Option<NextFrame>, AllocError>
         ensures value { IfOk result (λ next. sends_next own next ≡ sending_in self.now own) }
         ensures fits { IfOk result (λ next. IfSome next (CanBeSent self.now)) }
+        ensures wants { OnErr result (does_send (sending_in self.now own) ≡ true) }
     {
         let Some(place) = port_on(self.fabric.devices(), &self.plans, own) else {
             return Ok(None);
@@ -162,8 +170,8 @@ impl Cluster {
         }))
     }
 
-    // The next part of a frame is copied on a side and a queue, and a frame that is delivered with it arrives at the
-    // port there.
+    // The next part of a frame is copied on a side and a queue. A frame that is delivered with it has arrived at the
+    // port there before, so that nothing is left to be done after the copy.
     fn copy(&mut self, own: LaneName) -> Result<Answer, AllocError>
         requires { IsQueueOf (plan_held self.old) own.pair own.from own.queue }
         ensures { HasStepped self.old self.new (Copy own.pair own.from own.queue) result }
@@ -173,31 +181,33 @@ impl Cluster {
             side: own.from,
             queue: own.queue,
         };
-        let answer = self.fabric.step(&step)?;
-        self.take_in(own, &answer)?;
-        Ok(answer)
+        self.take_in(own)?;
+        self.fabric.step(&step)
     }
 
-    // A frame arrives at the port on a side and a queue, if it was delivered there.
+    // The frame that the next copy on a side and a queue delivers arrives at the port there, if there are both.
     #[inline(always)]
-    fn take_in(&mut self, own: LaneName, answer: &Answer) -> Result<(), AllocError>
-        ensures ok { OnOk result (self.new ≡ brought_in self.old own answer.now) }
+    fn take_in(&mut self, own: LaneName) -> Result<(), AllocError>
+        requires { IsQueueOf (plan_held self.old) own.pair own.from own.queue }
+        ensures ok { OnOk result (self.new ≡ brought_in self.old own (frame_due self.old.fabric own)) }
         ensures err { OnErr result (self.new ≡ self.old) }
-    {
-        if let Answer::Delivered { frame, .. } = answer {
-            self.arrive(own, frame)?;
-        }
-        Ok(())
-    }
-
-    // A frame that was delivered on a side and a queue arrives at the port there, if there is one.
-    fn arrive(&mut self, own: LaneName, frame: &Frame) -> Result<(), AllocError>
-        ensures ok { OnOk result (self.new ≡ arrived_in self.old own frame.now) }
-        ensures err { OnErr result (self.new ≡ self.old) }
+        ensures wants { OnErr result (BringsFrame self.old own) }
     {
         let Some(place) = port_on(self.fabric.devices(), &self.plans, own) else {
             return Ok(());
         };
+        let Some(frame) = self.fabric.frame_due(own)? else {
+            return Ok(());
+        };
+        self.arrive(place, frame)
+    }
+
+    // A frame arrives at a port.
+    fn arrive(&mut self, place: PortPlace, frame: Frame) -> Result<(), AllocError>
+        requires { IsPortAmong self.old.plans place.switch place.port }
+        ensures ok { OnOk result (self.new ≡ arrived_in self.old (port_seen place) frame) }
+        ensures err { OnErr result (self.new ≡ self.old) }
+    {
         self.switches[place.switch as usize].arrive(place.port, frame)
     }
 

@@ -10,5 +10,4 @@ mod refusals;
 mod relays;
 
 pub use cluster::Cluster;
-pub use fabric_core::is_made;
 pub use refusals::refused_again;

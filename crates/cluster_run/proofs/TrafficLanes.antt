@@ -1,7 +1,8 @@
 -- The lanes of a plan's traffic: what the plan says of them.
-use Rattle.std.proofs.Common.{◌≡◌, ◌≢◌, ℕ, suc, ◌+◌, ◌<◌, ◌≤◌, ◌==◌, ◌&&◌, Bool, true, false, IsTrue, ◌↔◌, cond, nat_lt, Some, None, if◌then◌else◌, List, [], ◌∷◌, length, map, filter, sum, count_by, slice_index_or, refl, sym, ◌∙◌, ap, subst, arith}
+use Rattle.std.proofs.Common.{◌≡◌, ◌≢◌, ℕ, suc, ◌+◌, ◌<◌, ◌≤◌, ◌==◌, ◌&&◌, Bool, true, false, IsTrue, ◌↔◌, cond, Some, None, if◌then◌else◌, List, [], ◌∷◌, ◌++◌, length, map, filter, sum, count_by, slice_index_or, refl, sym, ◌∙◌, ap, subst, arith}
 use Rattle.std.proofs.lemmas.Bool.{and_parts, eqb-true, false≢true}
-use Rattle.std.proofs.lemmas.List.Elements.{All-cons, All-nil}
+use Rattle.std.proofs.lemmas.List.{map-append}
+use Rattle.std.proofs.lemmas.List.Elements.{All-cons, All-nil, filter-append}
 use Rattle.std.proofs.lemmas.List.FromFn.{get_or-map-range_with_len, length-map-range_with_len}
 use Rattle.std.proofs.lemmas.List.Sums.{sum_by-cons}
 use Rattle.std.specs.List.{All, cons_option}
@@ -19,8 +20,9 @@ use Rattle.plan_model.specs.Sizes.{layout_of}
 use Rattle.plan_model.specs.TrafficPlans.{IsTraffic, IsTrafficLane, frames_in, is_break_of}
 use Rattle.lane_workers.specs.Passes.{HaveBytes}
 use Rattle.traffic_plan.specs.Lanes.{frames_on}
+use Rattle.cluster_run.specs.LaneKeys.{LaneKey}
 use Rattle.cluster_run.specs.Lanes.{CanRun, entries_on, losses_on}
-use Rattle.cluster_run.specs.ByLane.{LaneFrames, lane_frames, key_with, keys_with_frames}
+use Rattle.cluster_run.specs.ByLane.{LaneFrames, lane_frames, has_frame, key_with, keys_with, keys_with_frames}
 use Rattle.cluster_run.specs.Tasks.{CanBeRun, losses_by_pair}
 use Rattle.cluster_run.specs.declared.by_lane.LaneTraffic.{LaneTraffic}
 
@@ -109,21 +111,42 @@ losses_found plan losses pair are declared =
     (omega arith, ap (λ (losses : List ℕ). slice_index_or losses pair 0) are ∙ get_or-map-range_with_len count 0 (length plan.pairs) pair pair 0 declared (omega arith))
 
 -- A lane's name and frames with the entries of its ring and the losses of its pair's link are its key by the plan.
-pub task_key : (plan : Plan) (lane : LaneTraffic) (pair : PairPlan) (ring : Layout) (entries losses : ℕ) → pair ≡ pair_plan plan lane.name.pair → ring ≡ layout_of pair lane.name.from lane.name.queue → entries ≡ entries_of ring
+pub task_key : (plan : Plan) (number : ℕ) (lane : LaneTraffic) (pair : PairPlan) (ring : Layout) (entries losses : ℕ) → pair ≡ pair_plan plan lane.name.pair → ring ≡ layout_of pair lane.name.from lane.name.queue → entries ≡ entries_of ring
     → losses ≡ losses_on plan lane.name
-    → record { name = lane.name; entries = entries; losses = losses; traffic = lane.frames.frames } ≡ key_with plan (lane_frames lane)
-task_key plan lane pair ring entries losses pair_is ring_is entries_is losses_is =
+    → record { name = lane.name; number = number; entries = entries; losses = losses; traffic = lane.frames.frames } ≡ key_with plan number (lane_frames lane)
+task_key plan number lane pair ring entries losses pair_is ring_is entries_is losses_is =
     let value : entries ≡ entries_on plan lane.name = entries_is ∙ (ap entries_of ring_is ∙ ap (λ (pair : PairPlan). entries_of (layout_of pair lane.name.from lane.name.queue)) pair_is) in
-    ap (λ (entries : ℕ). record { name = lane.name; entries = entries; losses = losses; traffic = lane.frames.frames }) value
-    ∙ ap (λ (losses : ℕ). record { name = lane.name; entries = entries_on plan lane.name; losses = losses; traffic = lane.frames.frames }) losses_is
+    ap (λ (entries : ℕ). record { name = lane.name; number = number; entries = entries; losses = losses; traffic = lane.frames.frames }) value
+    ∙ ap (λ (losses : ℕ). record { name = lane.name; number = number; entries = entries_on plan lane.name; losses = losses; traffic = lane.frames.frames }) losses_is
 
 -- no more lanes wait than there are
-few_more : (plan : Plan) (lane : LaneFrames) (rest : List LaneFrames) (b : Bool) (n : ℕ) → length (map (key_with plan) rest) ≤ n → length (map (key_with plan) (cond b (lane ∷ rest) rest)) ≤ suc n
-few_more plan lane rest true n few = omega (arith, few)
-few_more plan lane rest false n few = omega (arith, few)
+few_more : (plan : Plan) (lane : LaneFrames) (rest : List LaneFrames) (b : Bool) (n : ℕ) → ((number : ℕ) → length (keys_with plan number rest) ≤ n) → (number : ℕ) → length (keys_with plan number (cond b (lane ∷ rest) rest)) ≤ suc n
+few_more plan lane rest true n few number = let rest_few = few (number + 1) in omega arith
+few_more plan lane rest false n few number = let rest_few = few number in omega arith
 
 -- The lanes that have a frame, and so a key, are no more than all lanes that are given.
-pub few_waiting : (plan : Plan) (lanes : List LaneFrames) → length (keys_with_frames plan lanes) ≤ length lanes
-few_waiting plan [] = omega arith
-few_waiting plan (lane ∷ lanes) =
-    few_more plan lane (filter (λ (lane : LaneFrames). nat_lt 0 (length lane.frames)) lanes) (nat_lt 0 (length lane.frames)) (length lanes) (few_waiting plan lanes)
+pub few_waiting : (plan : Plan) (lanes : List LaneFrames) (number : ℕ) → length (keys_with_frames plan number lanes) ≤ length lanes
+few_waiting plan [] number = omega arith
+few_waiting plan (lane ∷ lanes) number = few_more plan lane (filter has_frame lanes) (has_frame lane) (length lanes) (few_waiting plan lanes) number
+
+-- the keys of more lanes go on with the next number
+keys_with-append : (plan : Plan) (lanes more : List LaneFrames) (number : ℕ) → keys_with plan number (lanes ++ more) ≡ keys_with plan number lanes ++ keys_with plan (number + length (keys_with plan number lanes)) more
+keys_with-append plan [] more number = let here : number ≡ number + 0 = omega arith in ap (λ (n : ℕ). keys_with plan n more) here
+keys_with-append plan (lane ∷ lanes) more number =
+    let rest = keys_with plan (number + 1) lanes in
+    let there : number + 1 + length rest ≡ number + suc (length rest) = omega arith in
+    ap (λ (keys : List LaneKey). key_with plan number lane ∷ keys) (keys_with-append plan lanes more (number + 1) ∙ ap (λ (n : ℕ). rest ++ keys_with plan n more) there)
+
+-- Where the lanes that wait are those of a list that have a frame, numbered from 0, they still are with one lane more.
+pub waiting_more : (plan : Plan) (lanes : List LaneTraffic) (lane : LaneTraffic) (old new : List LaneKey) → old ≡ keys_with_frames plan 0 (map lane_frames lanes)
+    → new ≡ old ++ keys_with_frames plan (length old) (lane_frames lane ∷ []) → new ≡ keys_with_frames plan 0 (map lane_frames (lanes ++ lane ∷ []))
+waiting_more plan lanes lane old new old_is new_is =
+    let shown = map lane_frames lanes in
+    let all = filter has_frame shown in
+    let more = filter has_frame (lane_frames lane ∷ []) in
+    let keys = keys_with plan 0 all in
+    let many : length keys ≡ 0 + length keys = omega arith in
+    new_is ∙ (ap (λ (keys : List LaneKey). keys ++ keys_with plan (length keys) more) old_is
+    ∙ (ap (λ (n : ℕ). keys ++ keys_with plan n more) many
+    ∙ (sym (keys_with-append plan all more 0)
+    ∙ (ap (keys_with plan 0) (sym (filter-append has_frame shown (lane_frames lane ∷ []))) ∙ ap (keys_with_frames plan 0) (sym (map-append lane_frames lanes (lane ∷ [])))))))

@@ -1,5 +1,5 @@
 -- The frames of a plan's traffic, lane by lane.
-use Rattle.std.specs.Prelude.{◌≡◌, ℕ, ◌+◌, ◌*◌, ◌<◌, nat_lt, List, [], ◌∷◌, ◌++◌, length, map, filter, slice_index_or, slice_set}
+use Rattle.std.specs.Prelude.{◌≡◌, ℕ, ◌+◌, ◌*◌, ◌<◌, nat_lt, Bool, List, [], ◌∷◌, ◌++◌, length, map, filter, slice_index_or, slice_set}
 use Rattle.std.specs.List.{All}
 use Rattle.step_kinds.specs.declared.names.Side.{Side}
 use Rattle.step_kinds.specs.declared.names.Side.TheVariants.{A, B}
@@ -53,13 +53,22 @@ abbrev pub HasPlace : ℕ → Traffic → Type 0
 HasPlace lanes (Send lane frame) = place_of lane < lanes
 HasPlace lanes (Break pair) = Unit {0}
 
--- the key of a lane with these frames
-abbrev pub key_with : Plan → LaneFrames → LaneKey
-key_with plan lane = record { name = lane.name; entries = entries_on plan lane.name; losses = losses_on plan lane.name; traffic = lane.frames }
+-- the key of a lane with this number and these frames
+abbrev pub key_with : Plan → ℕ → LaneFrames → LaneKey
+key_with plan number lane = record { name = lane.name; number = number; entries = entries_on plan lane.name; losses = losses_on plan lane.name; traffic = lane.frames }
 
--- the keys of those lanes that have a frame
-abbrev pub keys_with_frames : Plan → List LaneFrames → List LaneKey
-keys_with_frames plan lanes = map (key_with plan) (filter (λ (lane : LaneFrames). nat_lt 0 (length lane.frames)) lanes)
+-- the keys of lanes that are numbered in a row, from a number on
+abbrev pub keys_with : Plan → ℕ → List LaneFrames → List LaneKey
+keys_with plan number [] = []
+keys_with plan number (lane ∷ lanes) = key_with plan number lane ∷ keys_with plan (number + 1) lanes
+
+-- the lane has a frame
+abbrev pub has_frame : LaneFrames → Bool
+has_frame lane = nat_lt 0 (length lane.frames)
+
+-- the keys of those lanes that have a frame, numbered from a number on
+abbrev pub keys_with_frames : Plan → ℕ → List LaneFrames → List LaneKey
+keys_with_frames plan number lanes = keys_with plan number (filter has_frame lanes)
 
 -- each lane has its frames of the plan's traffic
 abbrev pub AreOfTraffic : Plan → List LaneTraffic → Type 0

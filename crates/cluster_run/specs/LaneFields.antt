@@ -1,5 +1,5 @@
 -- The fields of a lane at work: what it shows, and what is true of it between two rounds.
-use Rattle.std.specs.Prelude.{◌≡◌, ◌+◌, ◌*◌, ◌≤◌, ◌<◌, ◌==◌, ◌&&◌, not, List, ◌++◌, length, map}
+use Rattle.std.specs.Prelude.{◌≡◌, ◌+◌, ◌*◌, ◌≤◌, ◌<◌, ◌==◌, ◌&&◌, not, List, [], ◌∷◌, ◌++◌, length, map}
 use Rattle.step_kinds.specs.Limits.{most_breaks, most_traffic_frames, most_traffic_entries}
 use Rattle.step_kinds.specs.Runs.{SessionShown, session_shown}
 use Rattle.table_rule.specs.ShownLane.{most_lane_frames}
@@ -12,7 +12,7 @@ use Rattle.cluster_run.specs.Lanes.{most_lanes}
 
 -- a lane whose ring isn't open yet
 abbrev pub key_of_task : task.Inside → LaneKey
-key_of_task t = record { name = t.name; entries = t.entries; losses = t.losses; traffic = t.frames.frames }
+key_of_task t = record { name = t.name; number = t.number; entries = t.entries; losses = t.losses; traffic = t.frames.frames }
 
 pub record IsTask (t : task.Inside) : Type 0 where
   pub number : t.number < most_lanes
@@ -29,7 +29,8 @@ ended_of w = map session_shown w.runs.items
 -- session has to send
 abbrev pub state_of : work.Inside → LaneState
 state_of w = record {
-  key = record { name = w.name; entries = w.entries; losses = length w.runs.items + w.ahead; traffic = accepted_over (ended_of w) ++ w.session.frames };
+  key = record { name = w.name; number = w.number; entries = w.entries; losses = length w.runs.items + w.ahead; traffic = accepted_over (ended_of w) ++ w.session.frames };
+  numbers = w.number ∷ [];
   over = (w.ahead == 0) && (length w.session.got == length w.session.frames) && not w.session.cut;
 }
 

@@ -11,20 +11,29 @@ use Rattle.traffic_plan.specs.Lanes.{frames_on}
 use Rattle.cluster_run.specs.Lanes.{entries_on, losses_on}
 use Rattle.cluster_run.specs.Runs.{accepted_over, left_at_last, session_proof, lane_proofs}
 
--- a lane, the entries of its ring, the losses of its pair's link, and the frames that it is to accept over its sessions
+-- a lane, its number among those with traffic, the entries of its ring, the losses of its pair's link, and the frames
+-- that it is to accept over its sessions
 pub record LaneKey : Type 0 where
   pub name : LaneName
+  pub number : ℕ
   pub entries : ℕ
   pub losses : ℕ
   pub traffic : List (List ℕ)
 
--- of a lane of a plan
-abbrev pub key_of : Plan → LaneName → LaneKey
-key_of plan lane = record { name = lane; entries = entries_on plan lane; losses = losses_on plan lane; traffic = frames_on lane plan.traffic }
+-- of a lane of a plan, by its number
+abbrev pub key_of : Plan → ℕ → LaneName → LaneKey
+key_of plan number lane = record { name = lane; number = number; entries = entries_on plan lane; losses = losses_on plan lane; traffic = frames_on lane plan.traffic }
 
--- a lane at work, or a stream of a lane: what it comes to, and whether its last session is whole
+-- of lanes of a plan that are numbered in a row, from a number on
+abbrev pub keys_from : Plan → ℕ → List LaneName → List LaneKey
+keys_from plan number [] = []
+keys_from plan number (lane ∷ lanes) = key_of plan number lane ∷ keys_from plan (number + 1) lanes
+
+-- A lane at work, or a stream of a lane: what it comes to, the numbers of its table lanes, and whether its last session
+-- is whole. A stream has two table lanes.
 pub record LaneState : Type 0 where
   pub key : LaneKey
+  pub numbers : List ℕ
   pub over : Bool
 
 -- the proofs of sessions that were all cut

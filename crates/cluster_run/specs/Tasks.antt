@@ -23,6 +23,7 @@ pub record CanBeRun (plan : Plan) (lane : LaneTraffic) : Type 0 where
 -- these are the parts of a lane that waits, and what is true of them
 pub record AreParts (key : LaneKey) (parts : TaskParts) : Type 0 where
   pub name : parts.name ≡ key.name
+  pub numbered : parts.number ≡ key.number
   pub entries : parts.entries ≡ key.entries
   pub losses : parts.losses ≡ key.losses
   pub traffic : parts.frames.frames ≡ key.traffic

@@ -12,6 +12,7 @@ use Rattle.cluster_run.specs.declared.workers.Cutting.TheInside as cutting
 abbrev pub sending_of : sending.Inside → SendingShown
 sending_of w = record {
   key = record { worker = w.clock.worker; lane = w.end.lane; entries = w.end.part.entries; frames = w.end.part.sent ++ w.todo.frames };
+  turn = w.clock.turn;
   left = length w.todo.frames;
   loads = w.end.part.link_loads;
 }
@@ -22,7 +23,7 @@ pub record IsSending (w : sending.Inside) : Type 0 where
   pub counted : length w.end.part.sent + length w.todo.frames < most_lane_frames
 
 abbrev pub moving_of : moving.Inside → MovingShown
-moving_of w = record { key = record { worker = w.clock.worker; lane = w.mover.lane }; tries = tries w.mover.part; loads = w.back.part.loads }
+moving_of w = record { key = record { worker = w.clock.worker; lane = w.mover.lane }; turn = w.clock.turn; tries = tries w.mover.part; loads = w.back.part.loads }
 
 -- the mover and the way back stand at one table
 abbrev pub IsMoving : moving.Inside → Type 0
@@ -31,6 +32,7 @@ IsMoving w = w.back.lane ≡ w.mover.lane
 abbrev pub receiving_of : receiving.Inside → ReceivingShown
 receiving_of w = record {
   key = record { worker = w.clock.worker; lane = w.end.lane };
+  turn = w.clock.turn;
   got = w.got.frames;
   spare = w.got.spare;
   loads = w.end.part.loads;
@@ -42,7 +44,7 @@ pub record IsReceiving (w : receiving.Inside) : Type 0 where
   pub room : w.got.spare + length w.got.frames ≡ w.room
 
 abbrev pub cutting_of : cutting.Inside → CuttingShown
-cutting_of w = record { key = record { worker = w.clock.worker; lane = w.end.lane }; cut = w.end.part.cut }
+cutting_of w = record { key = record { worker = w.clock.worker; lane = w.end.lane }; turn = w.clock.turn; cut = w.end.part.cut }
 
 -- whether the link was cut is kept beside the end
 abbrev pub IsCutting : cutting.Inside → Type 0

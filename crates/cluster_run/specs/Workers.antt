@@ -1,10 +1,20 @@
 -- What contracts see of a lane's workers and of a session of a lane.
-use Rattle.std.specs.Prelude.{ℕ, Bool, List}
+use Rattle.std.specs.Prelude.{ℕ, ◌-◌, ◌^◌, min, Bool, List}
 use Rattle.atomic_table.specs.Seated.{TableId}
+use Rattle.lane_workers.specs.Passes.{LetsTurns}
 
 -- the turns of a pass where one thread makes the passes of all workers
 abbrev pub most_pass_turns : ℕ
 most_pass_turns = 65535
+
+-- The number of a pass's first turn, by the number of the worker's next turn and by how many turns the pass may make.
+-- It is the next turn's number. If turns from it on would pass 2^64 - 2, it is the largest number from which none does.
+abbrev pub first_turn : ℕ → ℕ → ℕ
+first_turn turn turns = min turn (2 ^ 64 - 1 - turns)
+
+-- the gate that lets these pass lets this worker pass before each turn of such a pass
+abbrev pub LetsPass : (ℕ → ℕ → Type 0) → ℕ → ℕ → ℕ → Type 0
+LetsPass lets worker turn turns = LetsTurns lets worker (first_turn turn turns) turns
 
 -- what no pass of a worker changes: its number, by which it passes the gate, and the table of its lane
 pub record WorkerKey : Type 0 where
@@ -19,28 +29,34 @@ pub record SendingKey : Type 0 where
   pub entries : ℕ
   pub frames : List (List ℕ)
 
--- the sending worker, the number of the frames that are left to send, and its loads of the link word
+-- the sending worker, the number of its next turn, that of the frames that are left to send, and its loads of the link
+-- word
 pub record SendingShown : Type 0 where
   pub key : SendingKey
+  pub turn : ℕ
   pub left : ℕ
   pub loads : ℕ
 
--- the moving worker, its tries to move, and the loads of index out on the way back
+-- the moving worker, the number of its next turn, its tries to move, and the loads of index out on the way back
 pub record MovingShown : Type 0 where
   pub key : WorkerKey
+  pub turn : ℕ
   pub tries : ℕ
   pub loads : ℕ
 
--- the receiving worker, the frames that were received, for how many more there is room, and its loads of flags
+-- the receiving worker, the number of its next turn, the frames that were received, for how many more there is room,
+-- and its loads of flags
 pub record ReceivingShown : Type 0 where
   pub key : WorkerKey
+  pub turn : ℕ
   pub got : List (List ℕ)
   pub spare : ℕ
   pub loads : ℕ
 
--- the cutting worker, and whether the link was cut
+-- the cutting worker, the number of its next turn, and whether the link was cut
 pub record CuttingShown : Type 0 where
   pub key : WorkerKey
+  pub turn : ℕ
   pub cut : Bool
 
 -- a session of a lane: its first worker's number, its ring's entries, the frames that it may accept, those that were

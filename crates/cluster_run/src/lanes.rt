@@ -48,7 +48,7 @@ impl LaneWork {
         requires ring { (2 ≤ entries) × (entries ≤ most_traffic_entries) }
         requires bytes { HaveBytes frames.frames }
         requires few { length frames.frames < most_lane_frames }
-        ensures { IfOk result (λ work. work.key ≡ record { name = name; entries = entries; losses = losses; traffic = frames.frames }) }
+        ensures { IfOk result (λ work. work.key ≡ record { name = name; number = number; entries = entries; losses = losses; traffic = frames.frames }) }
     {
         Ok(LaneWork {
             name,

@@ -4,7 +4,7 @@ ghost use Rattle.std.specs.Prelude.{◌≡◌, ◌≤◌, ◌<◌, ◌++◌, ◌
 ghost use Rattle.step_kinds.specs.Limits.{most_breaks};
 ghost use Rattle.plan_model.specs.Plans.{pair_plan};
 ghost use Rattle.plan_model.specs.TrafficPlans.{is_break_of};
-ghost use Rattle.cluster_run.specs.LaneKeys.{key_of};
+ghost use Rattle.cluster_run.specs.LaneKeys.{keys_from};
 ghost use Rattle.cluster_run.specs.Lanes.{CanRun, traffic_lanes, most_lanes};
 ghost use Rattle.cluster_run.specs.ByLane.{AreOfTraffic, key_with, keys_with_frames, lane_frames};
 ghost use Rattle.cluster_run.specs.Tasks.{CanBeRun, losses_by_pair};
@@ -56,7 +56,7 @@ fn task_of(plan: &Plan, losses: &[u32], number: u32, lane: LaneTraffic) -> LaneT
     requires losses { losses.now ≡ losses_by_pair plan.now }
     requires number { number < most_lanes }
     requires lane { CanBeRun plan.now lane }
-    ensures { result ≡ key_with plan.now (lane_frames lane) }
+    ensures { result ≡ key_with plan.now number (lane_frames lane) }
 {
     let LaneTraffic { name, frames } = lane;
     ring_has_two_entries();
@@ -70,7 +70,7 @@ fn task_of(plan: &Plan, losses: &[u32], number: u32, lane: LaneTraffic) -> LaneT
     }
 }
 
-// Adds a lane after those that wait, where it has a frame.
+// Adds a lane after those that wait, where it has a frame. Its number is how many waited.
 fn push_task(
     plan: &Plan,
     losses: &[u32],
@@ -81,7 +81,7 @@ fn push_task(
     requires losses { losses.now ≡ losses_by_pair plan.now }
     requires few { length tasks.old.items < most_lanes }
     requires lane { lane.frames.frames ≡ frames_on lane.name plan.now.traffic }
-    ensures { OnOk result (tasks.new.items ≡ tasks.old.items ++ keys_with_frames plan.now (lane_frames lane ∷ [])) }
+    ensures { OnOk result (tasks.new.items ≡ tasks.old.items ++ keys_with_frames plan.now (length tasks.old.items) (lane_frames lane ∷ [])) }
 {
     if lane.frames.is_empty() {
         return Ok(());
@@ -100,7 +100,7 @@ fn waiting_lanes(
     requires plan { CanRun plan.now }
     requires few { length lanes.items ≤ most_lanes }
     requires traffic { AreOfTraffic plan.now lanes.items }
-    ensures { IfOk result (λ tasks. tasks.items ≡ keys_with_frames plan.now (map lane_frames lanes.items)) }
+    ensures { IfOk result (λ tasks. tasks.items ≡ keys_with_frames plan.now 0 (map lane_frames lanes.items)) }
 {
     let losses = losses_by_pair(alloc, plan)?;
     let mut tasks = VecDeque::new(alloc);
@@ -111,12 +111,13 @@ fn waiting_lanes(
 }
 
 /// The lanes of a plan that have traffic, each with its frames. They stand by the number of the pair, then those from
-/// side A before those from side B, then by the queue. The only error is running out of memory.
+/// side A before those from side B, then by the queue, and are numbered from 0 in that order. The only error is running
+/// out of memory.
 ///
 /// The plan's pairs and traffic have to be as a script can declare them, within the limits of traffic.
 pub fn lanes_to_run(alloc: Global, plan: &Plan) -> Result<VecDeque<LaneTask>, AllocError>
     requires { CanRun plan.now }
-    ensures keys { IfOk result (λ tasks. tasks.items ≡ map (key_of plan.now) (traffic_lanes plan.now)) }
+    ensures keys { IfOk result (λ tasks. tasks.items ≡ keys_from plan.now 0 (traffic_lanes plan.now)) }
     ensures few { IfOk result (λ tasks. length tasks.items ≤ most_lanes) }
 {
     let lanes = traffic_by_lane(alloc, plan)?;

@@ -10,8 +10,8 @@ use std::alloc::{AllocError, Global};
 use std::marker::Model;
 use step_kinds::{FrameList, LaneName};
 
-/// A lane with traffic whose ring isn't open yet. Contracts see its key: the lane, the entries of its ring, the losses
-/// of its pair's link, and its traffic.
+/// A lane with traffic whose ring isn't open yet. Contracts see its key: the lane, its number among the lanes
+/// with traffic, the entries of its ring, the losses of its pair's link, and its traffic.
 #[derive(Drop)]
 pub struct LaneTask {
     /// The lane.

@@ -1,8 +1,8 @@
 //! The four workers of a lane in a session, each with the end or the ends that it makes its turns with.
 
-ghost use Rattle.std.specs.Prelude.{◌≡◌, ◌≢◌, ◌+◌, ◌≤◌, [], true, false, length, take, IfOk};
-ghost use Rattle.io_edges.specs.Gates.{LetsWorker};
+ghost use Rattle.std.specs.Prelude.{◌≡◌, ◌≢◌, ◌+◌, ◌≤◌, [], true, false, length, min, take, IfOk};
 ghost use Rattle.table_lane.specs.Tries.{tries};
+ghost use Rattle.cluster_run.specs.Workers.{first_turn, LetsPass};
 
 use crate::clock::Clock;
 use io_edges::Gate;
@@ -27,15 +27,17 @@ pub(crate) struct Sending {
 
 impl Sending {
     /// Makes at least 1 and at most so many turns, and answers how many. What it was given to send stays, sent or not.
-    /// A turn with a frame left loads the link word once.
+    /// A turn with a frame left loads the link word once. Turns go on from those of the passes before, and the gate has
+    /// to let the worker pass before each.
     pub(crate) fn pass<G: Gate>(&mut self, gate: &G, turns: u32) -> u32
         requires some { 1 ≤ turns }
-        requires gate { LetsWorker (G.lets gate.now) self.old.key.worker }
+        requires gate { LetsPass (G.lets gate.now) self.old.key.worker self.old.turn turns }
         ensures key { self.new.key ≡ self.old.key }
         ensures some { 1 ≤ result }
         ensures at_most { result ≤ turns }
         ensures one_each { self.new.loads ≤ self.old.loads + result }
         ensures tries { self.new.left ≢ 0 → self.new.loads ≡ self.old.loads + result }
+        ensures turn { self.new.turn ≡ first_turn self.old.turn turns + result }
     {
         let first = self.clock.first(turns);
         let worker = self.clock.worker();
@@ -64,8 +66,8 @@ impl Model for Sending {
     ghost invariant = { IsSending };
 }
 
-/// The worker that moves frames and brings indices back. Contracts see its number, the lane that its ends stand at, how
-/// often it tried to move, and the loads on the way back.
+/// The worker that moves frames and brings indices back. Contracts see its number, the lane that its ends stand at, the
+/// number of its next turn, how often it tried to move, and the loads on the way back.
 #[derive(Drop)]
 pub struct Moving {
     mover: MoveEnd,
@@ -78,7 +80,7 @@ impl Moving {
     /// The worker with this number, before its first turn in a session. Both ends are those of one lane.
     pub fn new(mover: MoveEnd, back: BackEnd, worker: u32) -> Moving
         requires { back.lane ≡ mover.lane }
-        ensures { result ≡ record { key = record { worker = worker; lane = mover.lane }; tries = tries mover.part; loads = back.part.loads } }
+        ensures { result ≡ record { key = record { worker = worker; lane = mover.lane }; turn = 0; tries = tries mover.part; loads = back.part.loads } }
     {
         Moving {
             mover,
@@ -89,16 +91,17 @@ impl Moving {
     }
 
     /// Makes at least 1 and at most so many turns, and answers how many; `turns` is at least 1. In each it tries to
-    /// move, and loads once on the way back. The worker's number is the seed of its choices. The gate has to let it
-    /// pass before each turn.
+    /// move, and loads once on the way back. The worker's number is the seed of its choices. Turns go on from those of
+    /// the passes before, and the gate has to let it pass before each.
     pub fn pass<G: Gate>(&mut self, gate: &G, turns: u32) -> u32
         requires some { 1 ≤ turns }
-        requires gate { LetsWorker (G.lets gate.now) self.old.key.worker }
+        requires gate { LetsPass (G.lets gate.now) self.old.key.worker self.old.turn turns }
         ensures key { self.new.key ≡ self.old.key }
         ensures some { 1 ≤ result }
         ensures at_most { result ≤ turns }
         ensures tries { self.old.tries + result ≤ self.new.tries }
         ensures back_tries { self.new.loads ≡ self.old.loads + result }
+        ensures turn { self.new.turn ≡ first_turn self.old.turn turns + result }
     {
         let first = self.clock.first(turns);
         let worker = self.clock.worker();
@@ -146,7 +149,8 @@ pub fn room_for(alloc: Global, frames: usize) -> Result<FrameList, AllocError>
 }
 
 /// The worker that receives frames into a list with room for `room` of them. Contracts see its number, the lane that
-/// its end stands at, the frames that were received, for how many more there is room, and its loads of flags.
+/// its end stands at, and the number of its next turn. They see the frames that were received, for how many more there
+/// is room, and its loads of flags.
 #[derive(Drop)]
 pub struct Receiving {
     end: RecvEnd,
@@ -163,7 +167,7 @@ impl Receiving {
         requires received { end.part.got ≡ [] }
         requires none { got.frames ≡ [] }
         requires room { got.spare ≡ room }
-        ensures { result ≡ record { key = record { worker = worker; lane = end.lane }; got = []; spare = room; loads = end.part.loads } }
+        ensures { result ≡ record { key = record { worker = worker; lane = end.lane }; turn = 0; got = []; spare = room; loads = end.part.loads } }
     {
         Receiving {
             end,
@@ -175,16 +179,17 @@ impl Receiving {
     }
 
     /// Makes at most so many turns, and no more than the list has room for. It answers how many: at least one, where
-    /// there is room and `turns` isn't 0. Each turn loads a flag once, and what was received before stays in front. The
-    /// gate has to let the worker pass before each turn.
+    /// there is room and `turns` isn't 0. Each turn loads a flag once, and what was received before stays in front.
+    /// Turns go on from those of the passes before, and the gate has to let the worker pass before each.
     pub fn pass<G: Gate>(&mut self, gate: &G, turns: u32) -> u32
-        requires gate { LetsWorker (G.lets gate.now) self.old.key.worker }
+        requires gate { LetsPass (G.lets gate.now) self.old.key.worker self.old.turn (min turns self.old.spare) }
         ensures key { self.new.key ≡ self.old.key }
         ensures kept { take (length self.old.got) self.new.got ≡ self.old.got }
         ensures room { self.new.spare + length self.new.got ≡ self.old.spare + length self.old.got }
         ensures some { 1 ≤ turns → 1 ≤ self.old.spare → 1 ≤ result }
         ensures at_most { result ≤ turns }
         ensures tries { self.new.loads ≡ self.old.loads + result }
+        ensures turn { self.new.turn ≡ first_turn self.old.turn (min turns self.old.spare) + result }
     {
         let spare = self.room - self.got.len();
         let turns = turns.min(u32::try_from(spare).unwrap_or(u32::MAX));
@@ -227,8 +232,8 @@ impl Model for Receiving {
     ghost invariant = { IsReceiving };
 }
 
-/// The worker that cuts the link. Contracts see its number, the lane that its end stands at, and whether the link was
-/// cut.
+/// The worker that cuts the link. Contracts see its number, the lane that its end stands at, the number of its next
+/// turn, and whether the link was cut.
 #[derive(Drop)]
 pub struct Cutting {
     end: CutEnd,
@@ -240,7 +245,7 @@ impl Cutting {
     /// The worker with this number, before its turn in a session. The link isn't cut.
     pub fn new(end: CutEnd, worker: u32) -> Cutting
         requires { end.part.cut ≡ false }
-        ensures { result ≡ record { key = record { worker = worker; lane = end.lane }; cut = false } }
+        ensures { result ≡ record { key = record { worker = worker; lane = end.lane }; turn = 0; cut = false } }
     {
         Cutting {
             end,
@@ -249,11 +254,12 @@ impl Cutting {
         }
     }
 
-    /// Makes its one turn: the link is cut. The gate has to let the worker pass before its turns.
+    /// Makes its one turn: the link is cut. The gate has to let the worker pass before it.
     pub fn pass<G: Gate>(&mut self, gate: &G)
-        requires gate { LetsWorker (G.lets gate.now) self.old.key.worker }
+        requires gate { G.lets gate.now self.old.key.worker (first_turn self.old.turn 1) }
         ensures key { self.new.key ≡ self.old.key }
         ensures cut { self.new.cut ≡ true }
+        ensures turn { self.new.turn ≡ first_turn self.old.turn 1 + 1 }
     {
         let first = self.clock.first(1);
         let made = cut_pass(&mut self.end, gate, self.clock.worker(), first);

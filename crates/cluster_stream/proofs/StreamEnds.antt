@@ -264,13 +264,15 @@ new_goes key given start before = record {
   ever = let none = ap length before in omega arith;
 }
 
-abbrev key_with : LaneName → ℕ → ℕ → List (List ℕ) → LaneKey
-key_with name entries losses traffic = record { name = name; entries = entries; losses = losses; traffic = traffic }
+abbrev key_with : LaneName → ℕ → ℕ → ℕ → List (List ℕ) → LaneKey
+key_with name number entries losses traffic = record { name = name; number = number; entries = entries; losses = losses; traffic = traffic }
 
--- Two keys of lanes that have equal names, entries, losses and traffic are equal.
-pub key_is : {name name' : LaneName} {entries entries' losses losses' : ℕ} {traffic traffic' : List (List ℕ)} → name ≡ name' → entries ≡ entries' → losses ≡ losses' → traffic ≡ traffic' → key_with name entries losses traffic ≡ key_with name' entries' losses' traffic'
-key_is {name = name} {name' = name'} {entries = entries} {entries' = entries'} {losses = losses} {losses' = losses'} {traffic = traffic} {traffic' = traffic'} a b c d =
-    ap (λ (n : LaneName). key_with n entries losses traffic) a ∙ (ap (λ (n : ℕ). key_with name' n losses traffic) b ∙ (ap (λ (n : ℕ). key_with name' entries' n traffic) c ∙ ap (λ (t : List (List ℕ)). key_with name' entries' losses' t) d))
+-- Two keys of lanes that have equal names, numbers, entries, losses and traffic are equal.
+pub key_is : {name name' : LaneName} {number number' entries entries' losses losses' : ℕ} {traffic traffic' : List (List ℕ)} → name ≡ name' → number ≡ number' → entries ≡ entries' → losses ≡ losses' → traffic ≡ traffic'
+    → key_with name number entries losses traffic ≡ key_with name' number' entries' losses' traffic'
+key_is {name = name} {name' = name'} {number = number} {number' = number'} {entries = entries} {entries' = entries'} {losses = losses} {losses' = losses'} {traffic = traffic} {traffic' = traffic'} a m b c d =
+    ap (λ (n : LaneName). key_with n number entries losses traffic) a ∙ (ap (λ (n : ℕ). key_with name' n entries losses traffic) m
+    ∙ (ap (λ (n : ℕ). key_with name' number' n losses traffic) b ∙ (ap (λ (n : ℕ). key_with name' number' entries' n traffic) c ∙ ap (λ (t : List (List ℕ)). key_with name' number' entries' losses' t) d)))
 
 -- after a round
 pub work_on : (w : Inside) (session : SessionState) → IsWork w → session.first ≡ w.session.first → session.key ≡ w.session.key → w.session.ever ≤ session.ever → IsWork (record w { session = session })

@@ -1,5 +1,5 @@
 -- The fields of a stream at work: what it shows, and what is true of it between two rounds.
-use Rattle.std.specs.Prelude.{◌≡◌, ℕ, ◌+◌, ◌*◌, ◌≤◌, ◌<◌, ◌^◌, ◌==◌, ◌&&◌, not, true, List, length, fold}
+use Rattle.std.specs.Prelude.{◌≡◌, ℕ, ◌+◌, ◌*◌, ◌≤◌, ◌<◌, ◌^◌, ◌==◌, ◌&&◌, not, true, List, [], ◌∷◌, length, fold}
 use Rattle.std.specs.List.{All, flat_map}
 use Rattle.step_kinds.specs.Limits.{most_traffic_entries}
 use Rattle.stream_model.specs.Receiver.{new_receiver}
@@ -15,7 +15,8 @@ use Rattle.cluster_stream.specs.declared.lanes.StreamWork.TheInside as work
 
 abbrev pub state_of : work.Inside → LaneState
 state_of w = record {
-  key = record { name = w.name; entries = w.entries; losses = w.losses; traffic = w.session.key.items };
+  key = record { name = w.name; number = w.numbers.items; entries = w.entries; losses = w.losses; traffic = w.session.key.items };
+  numbers = w.numbers.items ∷ w.numbers.acks ∷ [];
   over = (w.ahead == 0) && (w.session.kept == length w.session.key.items) && not w.session.cut;
 }
 

@@ -4,6 +4,7 @@ ghost use Rattle.std.specs.Prelude.{◌≡◌, ◌≤◌, ◌++◌, ◌∷◌, t
 ghost use Rattle.io_edges.specs.Gates.{LetsWorkers};
 ghost use Rattle.cluster_run.specs.LaneKeys.{keys_of};
 ghost use Rattle.cluster_run.specs.Lanes.{most_lanes};
+ghost use Rattle.cluster_stream.specs.Keys.{AreNumbered};
 ghost use Rattle.cluster_stream.specs.Workers.{most_stream_workers};
 
 use crate::lanes::StreamWork;
@@ -31,6 +32,7 @@ pub(crate) fn next_group(
 ) -> Result<Vec<StreamWork>, AllocError>
     requires { lanes ≤ most_lanes }
     ensures keys { IfOk result (λ works. keys_of works.items ++ waiting.new.items ≡ first ∷ waiting.old.items) }
+    ensures numbers { IfOk result (λ works. AreNumbered lanes works.items) }
     ensures fewer { length waiting.new.items ≤ length waiting.old.items }
 {
     let mut entries = 2 * first.entries();

@@ -3,7 +3,7 @@
 ghost use Rattle.std.specs.Prelude.{◌≡◌, ◌≤◌, true, IfOk};
 ghost use Rattle.io_edges.specs.Gates.{LetsWorkers};
 ghost use Rattle.cluster_run.specs.Lanes.{most_lanes};
-ghost use Rattle.cluster_stream.specs.Keys.{ComesTo};
+ghost use Rattle.cluster_stream.specs.Keys.{ComesTo, stream_numbers};
 ghost use Rattle.cluster_stream.specs.Streams.{stream_shown};
 ghost use Rattle.cluster_stream.specs.Workers.{most_stream_workers};
 
@@ -37,10 +37,12 @@ pub(crate) struct StreamWork {
 }
 
 impl StreamWork {
-    /// A stream in its first session, where so many lanes have traffic. The only error is running out of memory.
+    /// A stream in its first session, where so many lanes have traffic: after their numbers come those of the lanes of
+    /// acknowledgements. The only error is running out of memory.
     pub(crate) fn new(alloc: Global, lanes: u32, task: LaneTask) -> Result<StreamWork, AllocError>
         requires { lanes ≤ most_lanes }
-        ensures { IfOk result (λ work. work.key ≡ task) }
+        ensures key { IfOk result (λ work. work.key ≡ task) }
+        ensures numbers { IfOk result (λ work. work.numbers ≡ stream_numbers lanes work.key.number) }
     {
         let TaskParts {
             name,
@@ -83,7 +85,8 @@ impl StreamWork {
     /// A round in which its workers have threads of their own. A stream that is over does nothing.
     pub(crate) fn pass_in_threads<R: Threads + Sync, G: Gate>(&mut self, rt: &R, gate: &G)
         requires { LetsWorkers (G.lets gate.now) most_stream_workers }
-        ensures { self.new.key ≡ self.old.key }
+        ensures key { self.new.key ≡ self.old.key }
+        ensures numbers { self.new.numbers ≡ self.old.numbers }
     {
         if self.is_over() {
             return;
@@ -95,7 +98,8 @@ impl StreamWork {
     /// A round in which this thread makes the passes of its workers in turn. A stream that is over does nothing.
     pub(crate) fn pass_in_turn<G: Gate>(&mut self, gate: &G)
         requires { LetsWorkers (G.lets gate.now) most_stream_workers }
-        ensures { self.new.key ≡ self.old.key }
+        ensures key { self.new.key ≡ self.old.key }
+        ensures numbers { self.new.numbers ≡ self.old.numbers }
     {
         if self.is_over() {
             return;
@@ -156,7 +160,10 @@ impl RoundWork for StreamWork {
     }
 
     // The next session begins from the item that was acknowledged.
-    fn renewed(self, alloc: Global) -> Result<StreamWork, AllocError> {
+    fn renewed(self, alloc: Global) -> Result<StreamWork, AllocError>
+        ensures key { IfOk result (λ work. work.key ≡ self.key) }
+        ensures numbers { IfOk result (λ work. work.numbers ≡ self.numbers) }
+    {
         if self.ahead == 0 || !self.session.is_cut() {
             return Ok(self);
         }

@@ -34,7 +34,7 @@ use Rattle.fabric_rule.specs.Moves.{move_of}
 -- One pair
 
 -- a pair after a landing
-abbrev landed_pair : PairState → ℕ → Side → ℕ → PairState
+abbrev pub landed_pair : PairState → ℕ → Side → ℕ → PairState
 landed_pair pair k side place = (move_of [] pair (Land k side place)).after
 
 -- what arrives leaves the plan
@@ -62,8 +62,8 @@ same_landed pair other k side place plans lands =
       queues = lands.queues;
     }
 
--- an answer that says `landed` is that of a write
-has_landed : (answer : LandAnswer Flying) (label : Label) → of_land (label_landed answer) ≡ Landed label → (flying : Flying) × (answer ≡ landing_answer.Landed flying)
+-- An answer that says `landed` is that of a write.
+pub has_landed : (answer : LandAnswer Flying) (label : Label) → of_land (label_landed answer) ≡ Landed label → (flying : Flying) × (answer ≡ landing_answer.Landed flying)
 has_landed (landing_answer.Landed flying) label is = (flying, refl)
 has_landed landing_answer.Blocked label is = absurd (cc is)
 has_landed landing_answer.Nothing label is = absurd (cc is)
@@ -113,22 +113,22 @@ module _ (pairs others : List PairState) (k : ℕ) (side : Side) (place : ℕ) (
 same_head : {X : Type 0} (x y : X) → x ∷ [] ≡ y ∷ [] → x ≡ y
 same_head x y e = cc e
 
--- after the same steps a step has one answer
-one_answer : (plan : Plan) (steps : List Step) (step : Step) (one other : Answer) → IsAnswered plan steps step one → IsAnswered plan steps step other → one ≡ other
+-- After the same steps a step has one answer.
+pub one_answer : (plan : Plan) (steps : List Step) (step : Step) (one other : Answer) → IsAnswered plan steps step one → IsAnswered plan steps step other → one ≡ other
 one_answer plan steps step one other is are =
     ap (λ (made : Answered). made.answer)
     (same_head (record { step = step; answer = one }) (record { step = step; answer = other })
     (append_cancel_left (log_after plan steps) (record { step = step; answer = one } ∷ []) (record { step = step; answer = other } ∷ []) (sym is ∙ are)))
 
 module _ (fabric other : FabricState) (k : ℕ) (side : Side) (place : ℕ) (plans : plan_kept fabric ≡ plan_kept other) (pair : IsPairOf (plan_kept fabric) k) where
-  abbrev after : PairState
+  abbrev pub after : PairState
   after = landed_pair (pair_of fabric k) k side place
 
-  abbrev new : FabricState
+  abbrev pub new : FabricState
   new = with_pair fabric k after
 
   -- the fabric on which the write landed has made the landing too
-  made_landing : (plan : Plan) (steps : List Step) → HasMade plan steps fabric → HasMade plan (steps ++ Land k side place ∷ []) new
+  pub made_landing : (plan : Plan) (steps : List Step) → HasMade plan steps fabric → HasMade plan (steps ++ Land k side place ∷ []) new
   made_landing plan steps made =
       let answer = (move_of fabric.devs (pair_of fabric k) (Land k side place)).answer in
       step_made plan steps (Land k side place) fabric new made (permitted_by fabric (Land k side place) after pair plan steps made) answer

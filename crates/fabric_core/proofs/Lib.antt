@@ -1,10 +1,12 @@
 pub mod CleanedPairs
 pub mod Facade
 pub mod ForgottenQueues
+pub mod FramesDue
 pub mod FrameTurns
 pub mod FreshFabrics
 pub mod FreshQueues
 pub mod InFlight
+pub mod KeysLanded
 pub mod LandedFabrics
 pub mod LogCounts
 pub mod MorePages

@@ -21,7 +21,8 @@ use Rattle.ledger_model.specs.Log.{ledger_of}
 use Rattle.ledger_model.specs.Next.{pair_next}
 use Rattle.ledger_model.specs.Outcome.{Outcome}
 use Rattle.memory_model.specs.Memory.{Site, bytes_of_site, memory_of, site_of, stores_by}
-use Rattle.ledger_laws.specs.Laws.{after_refusal, is_made}
+use Rattle.ledger_laws.specs.Laws.{after_refusal}
+use Rattle.step_kinds.specs.Answers.{is_made}
 use Rattle.ledger_laws.proofs.Facade.{answer_of, refusals_change_nothing}
 use Rattle.byte_laws.proofs.Facade.{same_outcome, site_of-elsewhere, site_of-here, site_outcome, sites_are_the_ledger}
 use Rattle.fabric_rule.specs.StandsFor.{PairStands}

@@ -56,7 +56,7 @@ use Rattle.queue_pair.specs.declared.LookAnswer.{LookAnswer}
 use Rattle.queue_pair.specs.declared.LookAnswer.TheVariants as look
 use Rattle.fabric_rule.specs.Answers.{of_ack, of_begin, of_check, of_clear, of_copy, of_join, of_land, of_link, of_look, of_offer, of_post, of_ready, of_xbegin}
 use Rattle.fabric_rule.specs.Parts.{PairState, QueuePart, no_queue, plain_pair, queue_of, with_bridge, with_queue}
-use Rattle.ledger_laws.specs.Laws.{is_made}
+use Rattle.step_kinds.specs.Answers.{is_made}
 use Rattle.fabric_core.specs.Fabric.{FabricState, no_state, pair_of, plain}
 use Rattle.fabric_core.specs.Refusals.{entry_let_go, queue_changed, refusal_counted, refused_in}
 use Rattle.fabric_rule.specs.Turns.{accepted_where_begun, delivered_where_whole, xbegun}

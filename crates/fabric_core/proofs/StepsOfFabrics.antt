@@ -20,7 +20,7 @@ use Rattle.plan_model.specs.DeclaredPlans.{Agree, IsDeclared, IsPair, IsPairOf, 
 use Rattle.plan_model.specs.Plans.{no_pair, pair_plan, side_plan}
 use Rattle.plan_model.proofs.Facade.{permitted_by_other, queue_of_other}
 use Rattle.ledger_laws.proofs.Facade.{answers_are_right, are_ordinary, has_sides, joined_means_agreement, laws_hold, log_of-last, no_ordinary_ver_differs_or_long, up_means_agreement}
-use Rattle.ledger_laws.specs.Laws.{is_made}
+use Rattle.step_kinds.specs.Answers.{is_made}
 use Rattle.ledger_model.specs.Ledger.{PairPart, side_of}
 use Rattle.ledger_model.specs.Log.{ledger_of}
 use Rattle.ledger_model.specs.Next.{pair_next}
@@ -42,6 +42,7 @@ use Rattle.fabric_core.specs.declared.fabric.Fabric.TheInside.{Inside}
 use Rattle.fabric_core.proofs.RefusedMoves.{refused_left}
 use Rattle.fabric_core.specs.Lawful.{IsLawful}
 use Rattle.fabric_core.specs.FabricStep.{HasStepped}
+use Rattle.fabric_core.specs.FrameDue.{rule_answer}
 use Rattle.fabric_core.specs.Wants.{MayWant}
 use Rattle.fabric_core.specs.LogClauses.{HasMade, IsAnswered, IsLikely, log_after}
 use Rattle.fabric_rule.specs.Moves.{move_of}
@@ -362,8 +363,16 @@ module _ (old : FabricState) (step : Step) (pair : PairState) (may : IsPermitted
   pub among_pairs : subject_of step < length old.pairs
   among_pairs = let below = pair_among (plan_kept old) step may in omega (arith, below, length-map old.pairs (λ (pair : PairState). pair.bridge.plan))
 
+  -- The rule answers a permitted step as the log does, by the pair as it stands.
+  pub rule_answers : (plan : Plan) (steps : List Step) → HasMade plan steps old → IsAnswered plan steps step (rule_answer old step)
+  unfolding rule_answer
+  rule_answers plan steps made =
+      let next = move_of old.devs (pair_of old (subject_of step)) step in
+      step_answered plan steps step old (with_pair old (subject_of step) next.after) made (permitted_by plan steps made) next.answer (set_moved old step next.after next.answer among_pairs refl refl)
+
   pub fabric_moved : {E : Type 0} (result : Result Answer E) → MadeSome (plan_kept old) old → (IsErr result → may_want_memory step ≡ true) → PairMoved old.devs step (pair_of old (subject_of step)) pair result
       → HasStepped old (with_pair old (subject_of step) pair) step result
+  unfolding rule_answer
   fabric_moved (Ok answer) some wants moved =
       let moves = set_moved old step pair answer among_pairs moved.answer moved.after in
       let new = with_pair old (subject_of step) pair in
@@ -371,6 +380,7 @@ module _ (old : FabricState) (step : Step) (pair : PairState) (may : IsPermitted
         answered = λ plan steps made.
             let may = permitted_by plan steps made in
             (step_answered plan steps step old new made may answer moves, step_likely plan steps step old new made may answer moves);
+        told = moved.answer;
         right = λ plan steps made.
             let may = permitted_by plan steps made in
             answers_are_right plan (memory_of plan) steps step answer made.declared (all_last (IsPermitted plan) steps step made.permitted may) (step_answered plan steps step old new made may answer moves);
@@ -388,6 +398,7 @@ module _ (old : FabricState) (step : Step) (pair : PairState) (may : IsPermitted
       let same = set_plain old (subject_of step) pair moved.err in
       record {
         answered = λ plan steps made. tt;
+        told = tt;
         right = λ plan steps made. tt;
         stands = λ plan steps made. tt;
         lawful = λ plan steps made. tt;
@@ -395,9 +406,7 @@ module _ (old : FabricState) (step : Step) (pair : PairState) (may : IsPermitted
         still_stands = λ plan steps made. still_made plan steps old new same made;
         err = same;
         wants = wants;
-        border = λ plan steps made.
-            let next = move_of old.devs (pair_of old (subject_of step)) step in
-            (next.answer, step_answered plan steps step old (with_pair old (subject_of step) next.after) made (permitted_by plan steps made) next.answer (set_moved old step next.after next.answer among_pairs refl refl), moved.border);
+        border = λ plan steps made. (rule_answer old step, rule_answers plan steps made, moved.border);
         plan = same_plan old new (record { steps = some.steps; made = still_made (plan_kept old) some.steps old new same some.made });
       }
 

@@ -10,7 +10,7 @@ use Rattle.step_kinds.specs.declared.steps.Answer.{Answer}
 use Rattle.step_kinds.specs.declared.steps.Answer.TheVariants.{OkNumber, ReadyFrame}
 use Rattle.step_kinds.specs.declared.steps.Step.{Step}
 use Rattle.bridge_pair.specs.Bridge.{Bridge}
-use Rattle.ledger_laws.specs.Laws.{is_made}
+use Rattle.step_kinds.specs.Answers.{is_made}
 use Rattle.fabric_rule.specs.Moves.{Move, move_at, move_of}
 use Rattle.fabric_rule.specs.Parts.{PairState}
 use Rattle.fabric_core.specs.Fabric.{may_want_memory, wants_memory_at}

@@ -3,8 +3,9 @@ use Rattle.std.specs.Prelude.{◌≡◌, false, true, List, [], ◌∷◌, ◌++
 use Rattle.step_kinds.specs.declared.plan.Plan.{Plan}
 use Rattle.step_kinds.specs.declared.steps.Answer.{Answer}
 use Rattle.step_kinds.specs.declared.steps.Step.{Step}
-use Rattle.ledger_laws.specs.Laws.{is_made}
+use Rattle.step_kinds.specs.Answers.{is_made}
 use Rattle.fabric_core.specs.Fabric.{FabricState, may_want_memory, plain, plan_kept}
+use Rattle.fabric_core.specs.FrameDue.{rule_answer}
 use Rattle.fabric_core.specs.Lawful.{IsLawful, IsRight}
 use Rattle.fabric_core.specs.LogClauses.{HasMade, IsAnswered, IsLikely}
 use Rattle.fabric_core.specs.Refusals.{refused_in}
@@ -14,6 +15,8 @@ use Rattle.fabric_core.specs.Wants.{IsWantedAfter}
 pub record HasStepped {E : Type 0} (old new : FabricState) (step : Step) (result : Result Answer E) : Type 0 where
   -- the answer is the log's of those steps and this one
   pub answered : (plan : Plan) (steps : List Step) → HasMade plan steps old → IfOk result (λ answer. IsAnswered plan steps step answer × IsLikely plan step answer)
+  -- it is the rule's, by the pair as it stands
+  pub told : IfOk result (λ answer. answer ≡ rule_answer old step)
   -- so it says what the log of those steps says: refusals come exactly there, and a side comes up where all numbers
   -- landed and agree
   pub right : (plan : Plan) (steps : List Step) → HasMade plan steps old → IfOk result (IsRight plan steps step)

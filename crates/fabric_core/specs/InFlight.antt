@@ -4,7 +4,7 @@ use Rattle.std.specs.List.{flat_map}
 use Rattle.step_kinds.specs.declared.names.Side.{Side}
 use Rattle.step_kinds.specs.declared.names.Side.TheVariants.{A, B}
 use Rattle.step_kinds.specs.declared.plan.Plan.{Plan}
-use Rattle.step_kinds.specs.declared.steps.Answer.TheVariants.{Nothing}
+use Rattle.step_kinds.specs.declared.steps.Answer.TheVariants.{Landed, Nothing}
 use Rattle.step_kinds.specs.declared.steps.Label.{Label}
 use Rattle.step_kinds.specs.declared.steps.Label.TheVariants.{Chunk, Len, Ver, Flag, Down, Bell, Index, Pad, Raw}
 use Rattle.step_kinds.specs.declared.steps.Step.{Step}
@@ -68,3 +68,10 @@ fabric_key_without fabric k side place =
 abbrev pub SameKeys : Type 0
 SameKeys = (plan : Plan) (steps : List Step) (fabric other : FabricState) →
     HasMade plan steps fabric → HasMade plan steps other → fabric_key fabric ≡ fabric_key other
+
+-- Where a landing is answered `landed`, the key without that write is the key of each fabric that has made the same
+-- steps and the landing after them.
+abbrev pub KeyOnceLanded : Type 0
+KeyOnceLanded = (plan : Plan) (steps : List Step) (pair : ℕ) (side : Side) (place : ℕ) (label : Label) (fabric other : FabricState) →
+    HasMade plan steps fabric → IsAnswered plan steps (Land pair side place) (Landed label) → HasMade plan (steps ++ Land pair side place ∷ []) other →
+    fabric_key_without fabric pair side place ≡ fabric_key other

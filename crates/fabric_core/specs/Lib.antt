@@ -2,6 +2,7 @@ pub mod Counts
 pub mod Fabric
 pub mod FabricStep
 pub mod Fabrics
+pub mod FrameDue
 pub mod InFlight
 pub mod Lawful
 pub mod LogClauses

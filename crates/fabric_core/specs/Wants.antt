@@ -11,7 +11,7 @@ use Rattle.step_kinds.specs.declared.plan.Counters.{Counters}
 use Rattle.step_kinds.specs.declared.plan.Plan.{Plan}
 use Rattle.step_kinds.specs.declared.steps.Answer.{Answer}
 use Rattle.step_kinds.specs.declared.steps.Step.{Step}
-use Rattle.ledger_laws.specs.Laws.{is_made}
+use Rattle.step_kinds.specs.Answers.{is_made}
 use Rattle.fabric_rule.specs.Parts.{PairState, queue_of}
 use Rattle.fabric_core.specs.Fabric.{FabricState, pair_of}
 use Rattle.fabric_core.specs.LogClauses.{IsAnswered}

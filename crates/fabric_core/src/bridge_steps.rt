@@ -12,7 +12,7 @@ ghost use Rattle.fabric_core.specs.Fabric.{bridge_wants_memory};
 ghost use Rattle.fabric_core.specs.Promises.{CanTurn, HasMorePages};
 ghost use Rattle.fabric_rule.specs.Answers.{of_link};
 ghost use Rattle.hand_shake.specs.Offers.{with_posted};
-ghost use Rattle.ledger_laws.specs.Laws.{is_made};
+ghost use Rattle.step_kinds.specs.Answers.{is_made};
 ghost use Rattle.host_memory.specs.Memory.{bytes_at};
 ghost use Rattle.plan_model.specs.DeclaredPlans.{IsPoke};
 ghost use Rattle.plan_model.specs.Link.{is_up, train_refusal};

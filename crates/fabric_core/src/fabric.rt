@@ -1,12 +1,13 @@
 //! The fabric.
 
-ghost use Rattle.std.specs.Prelude.{IfOk, IsErr, IsTrue, List, OnErr, OnOk, [], length, map, true, ◌++◌, ◌↔◌, ◌<◌, ◌∷◌, ◌≡◌};
+ghost use Rattle.std.specs.Prelude.{IfOk, IsErr, IsSome, IsTrue, List, OnErr, OnOk, [], length, map, true, ◌++◌, ◌↔◌, ◌<◌, ◌∷◌, ◌≡◌};
 ghost use Rattle.std.specs.List.{flat_map};
 ghost use Rattle.bridge_pair.specs.Bridge.{flight_of};
 ghost use Rattle.fabric_core.specs.Fabric.{StandsFor, bare_plan, may_want_memory, pair_of, plain, plan_kept};
 ghost use Rattle.fabric_core.specs.InFlight.{LandsNoneFrom, fabric_key, fabric_key_without, pair_key};
 ghost use Rattle.fabric_core.specs.LogClauses.{AreCounters, HasMade, IsAccepted, IsAnswered, IsDelivered, IsSession};
 ghost use Rattle.fabric_core.specs.FabricStep.{HasStepped};
+ghost use Rattle.fabric_core.specs.FrameDue.{frame_due};
 ghost use Rattle.fabric_core.specs.Same.{AreSameBut, AreSamePairs, plan_at};
 ghost use Rattle.fabric_rule.specs.Parts.{queue_of};
 ghost use Rattle.plan_model.specs.DeclaredPlans.{IsDeclared, IsPairOf, IsPermitted, IsQueueOf};
@@ -21,7 +22,7 @@ use crate::pairs::PairBox;
 use crate::queues::QueueBox;
 use std::alloc::{AllocError, Global};
 use std::marker::Model;
-use step_kinds::{Answer, Counters, DevPlan, LaneName, Name, Plan, Side, Step};
+use step_kinds::{Answer, Counters, DevPlan, Frame, LaneName, Name, Plan, Side, Step};
 
 /// A cluster in bytes: its pairs and its devices. Contracts see both.
 #[derive(Drop)]
@@ -83,6 +84,21 @@ impl Fabric {
         let k = step.subject() as usize;
         let pair = &mut self.pairs[k];
         pair.make(&self.devs, step)
+    }
+
+    /// The frame that the next copy on a side and a queue delivers, if it delivers one: a frame of its own, and the
+    /// fabric stays as it is. Side and queue are named as the lane on which the side sends there. The pair has to be
+    /// one of the fabric's, and the queue one of the side.
+    ///
+    /// # Errors
+    ///
+    /// [`AllocError`] from out of memory alone, and only where there is such a frame.
+    pub fn frame_due(&self, own: LaneName) -> Result<Option<Frame>, AllocError>
+        requires { IsQueueOf (plan_kept self.now) own.pair own.from own.queue }
+        ensures value { IfOk result (λ due. due ≡ frame_due self.now own) }
+        ensures wants { OnErr result (IsSome (frame_due self.now own)) }
+    {
+        self.pair(own.pair).frame_due(own.from, own.queue)
     }
 
     /// How many frames of a lane were accepted and how many delivered in a session, both 0 in a session that wasn't.

@@ -13,5 +13,5 @@ mod refusals;
 mod same;
 
 pub use fabric::Fabric;
-pub use refusals::{is_made, refused_again};
+pub use refusals::refused_again;
 pub use same::{one_list_makes_same, same_has_made_same, same_keys};

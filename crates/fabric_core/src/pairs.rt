@@ -1,6 +1,6 @@
 //! A pair with its queues.
 
-ghost use Rattle.std.specs.Prelude.{IfOk, IsErr, IsTrue, OnErr, OnOk, length, map, slice_index_or, slice_set, true, ◌++◌, ◌<◌, ◌↔◌, ◌≡◌};
+ghost use Rattle.std.specs.Prelude.{IfOk, IsErr, IsSome, IsTrue, OnErr, OnOk, length, map, slice_index_or, slice_set, true, ◌++◌, ◌<◌, ◌↔◌, ◌≡◌};
 ghost use Rattle.bridge_pair.specs.Bridge.{flight_of, pages_of};
 ghost use Rattle.fabric_core.specs.Fabric.{bridge_wants_memory, may_want_memory, queue_wants_memory};
 ghost use Rattle.fabric_core.specs.InFlight.{pair_key, pair_key_without};
@@ -8,9 +8,10 @@ ghost use Rattle.fabric_core.specs.Parts.{Agrees, AreAlone, AreFreshQueues, AreL
 ghost use Rattle.fabric_core.specs.Promises.{CanTurn};
 ghost use Rattle.fabric_core.specs.Same.{AreOfOneSide, AreSameParts, HasSameQueues, IsSamePair, LandsAsPair};
 ghost use Rattle.fabric_core.specs.Wants.{MayWant, MayWantOnQueue};
-ghost use Rattle.ledger_laws.specs.Laws.{is_made};
+ghost use Rattle.step_kinds.specs.Answers.{is_made};
 ghost use Rattle.fabric_rule.specs.Laws.{IsFreshPair};
 ghost use Rattle.fabric_rule.specs.Parts.{no_queue, plain_bridge, plain_pair, queue_of};
+ghost use Rattle.frame_ring.specs.Calls.{frame_due};
 ghost use Rattle.frame_ring.specs.PortView.{FitsRings, HasPagesIn, HasRoomIn};
 ghost use Rattle.plan_model.specs.DeclaredPlans.{IsPair};
 ghost use Rattle.plan_model.specs.Plans.{side_plan as side_plan_of};
@@ -28,7 +29,7 @@ use plan_numbers::side_plan;
 use std::alloc::{AllocError, Global};
 use std::marker::Model;
 use step_kinds::{
-    Answer, BridgeStep, DevPlan, PairPlan, QueueStep, Side, SideStep, Step, StepPlace,
+    Answer, BridgeStep, DevPlan, Frame, PairPlan, QueueStep, Side, SideStep, Step, StepPlace,
 };
 
 /// A pair in bytes with the queues of its two sides. Contracts see both.
@@ -163,6 +164,21 @@ impl PairBox {
             Side::A => &self.queues_a[queue as usize],
             Side::B => &self.queues_b[queue as usize],
         }
+    }
+}
+
+impl PairBox {
+    /// The frame that the next copy on one of a side's queues delivers, if it delivers one: a frame of its own.
+    ///
+    /// # Errors
+    ///
+    /// [`AllocError`] from out of memory alone, and only where there is such a frame.
+    pub fn frame_due(&self, side: Side, queue: u32) -> Result<Option<Frame>, AllocError>
+        requires { queue < (side_plan_of self.now.bridge.plan side).queues }
+        ensures value { IfOk result (λ due. due ≡ frame_due (queue_of self.now side queue).queue.port self.now.bridge) }
+        ensures wants { OnErr result (IsSome (frame_due (queue_of self.now side queue).queue.port self.now.bridge)) }
+    {
+        self.queue(side, queue).frame_due(self.alloc, &self.pair)
     }
 }
 
@@ -348,7 +364,7 @@ fn fresh_queues(
     let mut queues = Vec::new(alloc);
     for queue in 0..side_plan(plan, side).queues {
         let (stop, start) = limits_on(devs, k, side, queue);
-        queues.push(QueueBox::new(alloc, plan, side, queue, stop, start)?)?;
+        queues.push(QueueBox::new(alloc, plan, side, queue, stop, start))?;
     }
     Ok(queues)
 }

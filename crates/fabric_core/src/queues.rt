@@ -1,6 +1,6 @@
 //! One queue of one side, with what is counted of it.
 
-ghost use Rattle.std.specs.Prelude.{IfOk, IsErr, IsTrue, OnErr, OnOk, length, true, ◌<◌, ◌↔◌, ◌≡◌, ◌≤◌};
+ghost use Rattle.std.specs.Prelude.{IfOk, IsErr, IsSome, IsTrue, OnErr, OnOk, length, true, ◌<◌, ◌↔◌, ◌≡◌, ◌≤◌};
 ghost use Rattle.fabric_core.specs.Numbers.{HasRoomToSend, most_count};
 ghost use Rattle.fabric_core.specs.Fabric.{queue_wants_memory};
 ghost use Rattle.fabric_core.specs.Parts.{CanTurnQueue, KeepsPort, fresh_part};
@@ -9,7 +9,7 @@ ghost use Rattle.fabric_core.specs.Same.{AreOfOnePlace, IsSamePart};
 ghost use Rattle.fabric_core.specs.Wants.{MayWantOnQueue};
 ghost use Rattle.plan_model.specs.Ethernet.{ethernet_frame};
 ghost use Rattle.fabric_rule.specs.Parts.{count_in, plain_bridge};
-ghost use Rattle.frame_ring.specs.Calls.{free_answer, reset_by};
+ghost use Rattle.frame_ring.specs.Calls.{frame_due, free_answer, reset_by};
 ghost use Rattle.frame_ring.specs.PortView.{FitsRings, HasPagesIn, HasRoomIn};
 ghost use Rattle.plan_model.specs.DeclaredPlans.{IsPair, IsPayload};
 ghost use Rattle.plan_model.specs.Plans.{side_plan as side_plan_of};
@@ -45,11 +45,7 @@ pub struct QueueBox {
 }
 
 impl QueueBox {
-    /// A queue before any step, with the limits of the device on it.
-    ///
-    /// # Errors
-    ///
-    /// [`AllocError`] from out of memory alone.
+    /// A queue before any step, with the limits of the device on it. It takes no memory yet.
     pub fn new(
         alloc: Global,
         plan: &PairPlan,
@@ -57,18 +53,18 @@ impl QueueBox {
         queue: u32,
         stop: u32,
         start: u32,
-    ) -> Result<QueueBox, AllocError>
+    ) -> QueueBox
         requires declared { IsPair plan.now }
         requires among { queue < (side_plan_of plan.now side).queues }
-        ensures { IfOk result (λ part. part ≡ fresh_part plan.now side queue stop start) }
+        ensures { result ≡ fresh_part plan.now side queue stop start }
     {
-        Ok(QueueBox {
-            queue: QueuePair::new(alloc, plan, side, queue)?,
+        QueueBox {
+            queue: QueuePair::new(alloc, plan, side, queue),
             flow: Flow::new(stop, start),
             counters: no_counts(),
             accepted: SessionCounts::new(alloc),
             delivered: SessionCounts::new(alloc),
-        })
+        }
     }
 
     /// Makes a step on the queue and answers it.
@@ -285,6 +281,19 @@ impl QueueBox {
             self.delivered.one_more(pair.link().session());
         }
         copy_answer(copy)
+    }
+
+    /// The frame that the next copy delivers, if it delivers one: a frame of its own.
+    ///
+    /// # Errors
+    ///
+    /// [`AllocError`] from out of memory alone, and only where there is such a frame.
+    pub fn frame_due(&self, alloc: Global, pair: &Pair) -> Result<Option<Frame>, AllocError>
+        requires { pair.now.plan ≡ self.now.queue.port.plan }
+        ensures value { IfOk result (λ due. due ≡ frame_due self.now.queue.port pair.now) }
+        ensures wants { OnErr result (IsSome (frame_due self.now.queue.port pair.now)) }
+    {
+        self.queue.frame_due(alloc, pair)
     }
 
     // Zeroes the flags of the entry that was copied.

@@ -178,6 +178,15 @@ part_answer receiving gathered =
 abbrev pub copy_answer : PortState → Bridge → LaneCopy
 copy_answer port bridge = if is_copying port.receiving.phase then part_answer port.receiving (gathered_next port bridge) else NotCopying
 
+-- the frame that a copy delivers, if it delivers one
+abbrev pub frame_of_copy : LaneCopy → Option (List ℕ)
+frame_of_copy (Whole number frame) = Some frame
+frame_of_copy copy = None
+
+-- the frame that the next copy is due to deliver
+abbrev pub frame_due : PortState → Bridge → Option (List ℕ)
+frame_due port bridge = frame_of_copy (copy_answer port bridge)
+
 abbrev pub part_copied : Receiving → List ℕ → Receiving
 part_copied receiving gathered =
     if more_parts receiving then record receiving { part = receiving.part + 1; gathered = gathered }

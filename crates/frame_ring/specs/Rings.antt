@@ -20,15 +20,15 @@ pub record QueueOf : Type 0 where
   pub queue : ℕ
 
 abbrev pub rings_seen : RingsInside → QueueOf
-rings_seen rings = record { plan = rings.plan.value; side = rings.side; queue = rings.queue }
+rings_seen rings = record { plan = rings.plan; side = rings.side; queue = rings.queue }
 
 pub record ArePlaced (rings : RingsInside) : Type 0 where
-  pub declared : IsPair rings.plan.value
-  pub among : rings.queue < (side_plan rings.plan.value rings.side).queues
-  pub out : rings.out ≡ layout_of rings.plan.value rings.side rings.queue
-  pub into : rings.into ≡ layout_to rings.plan.value rings.side rings.queue
-  pub out_window : rings.out_window ≡ window_of (layout_of rings.plan.value rings.side rings.queue)
-  pub into_window : rings.into_window ≡ window_of (layout_to rings.plan.value rings.side rings.queue)
+  pub declared : IsPair rings.plan
+  pub among : rings.queue < (side_plan rings.plan rings.side).queues
+  pub out : rings.out ≡ layout_of rings.plan rings.side rings.queue
+  pub into : rings.into ≡ layout_to rings.plan rings.side rings.queue
+  pub out_window : rings.out_window ≡ window_of (layout_of rings.plan rings.side rings.queue)
+  pub into_window : rings.into_window ≡ window_of (layout_to rings.plan rings.side rings.queue)
 
 -- what is so of the rings of every port
 pub record IsQueueOf (rings : QueueOf) : Type 0 where

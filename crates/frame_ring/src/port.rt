@@ -1,6 +1,6 @@
 //! One queue of one side.
 
-ghost use Rattle.std.specs.Prelude.{◌≡◌, ◌↔◌, ◌+◌, ◌-◌, ◌<◌, ◌≤◌, IfOk, IsTrue, OnErr, OnOk, false, length, true};
+ghost use Rattle.std.specs.Prelude.{◌≡◌, ◌↔◌, ◌+◌, ◌-◌, ◌<◌, ◌≤◌, IfOk, IsSome, IsTrue, OnErr, OnOk, false, length, true};
 ghost use Rattle.bridge_pair.specs.Bridge.{flight_of, pages_of, with_pages};
 ghost use Rattle.bridge_pair.specs.Pages.{PagesGrow};
 ghost use Rattle.byte_model.specs.Addresses.{own_header};
@@ -50,29 +50,25 @@ pub struct Port {
 }
 
 impl Port {
-    ghost use Rattle.frame_ring.specs.Calls.{BeginsFrame, FindsEntry, down_begun, frame_begun, room_answer, TouchedByBegin, TouchedByDown, TouchedByFlags, TouchedByLook, ack_answer, acked_by, after_ack, after_begin, after_clear, after_copy, after_down, after_look, after_post, begin_answer, clear_answer, cleared_by, copy_answer, down_answer, free_answer, look_answer, post_answer, posted_by, refuses_answer, reset_by};
+    ghost use Rattle.frame_ring.specs.Calls.{BeginsFrame, FindsEntry, down_begun, frame_begun, room_answer, TouchedByBegin, TouchedByDown, TouchedByFlags, TouchedByLook, ack_answer, acked_by, after_ack, after_begin, after_clear, after_copy, after_down, after_look, after_post, begin_answer, clear_answer, cleared_by, copy_answer, down_answer, frame_due, free_answer, look_answer, post_answer, posted_by, refuses_answer, reset_by};
     ghost use Rattle.frame_ring.specs.Port.{fresh_port, is_busy, unused_of, with_receiving, writes_left};
     ghost use Rattle.frame_ring.specs.PortView.{FitsRings, HasPagesIn, HasRoomIn, TouchesLeft, TouchesWrite, with_room};
     ghost use Rattle.frame_ring.specs.Same.{IsSamePort};
 
     /// The port of one of a side's queues, with nothing sent and nothing received. The plan has to be one that a script
-    /// can declare.
-    ///
-    /// # Errors
-    ///
-    /// [`AllocError`] from out of memory alone.
-    pub fn new(alloc: Global, plan: &PairPlan, side: Side, queue: u32) -> Result<Port, AllocError>
+    /// can declare, and the port has a copy of it. It takes no memory yet.
+    pub fn new(alloc: Global, plan: &PairPlan, side: Side, queue: u32) -> Port
         requires declared { IsPair plan.now }
         requires among { queue < (side_plan_of plan.now side).queues }
-        ensures { IfOk result (λ port. port ≡ fresh_port plan.now side queue) }
+        ensures { result ≡ fresh_port plan.now side queue }
     {
-        let rings = QueueRings::new(alloc, plan, side, queue)?;
+        let rings = QueueRings::new(plan, side, queue);
         let largest = rings.out().max_payload();
-        Ok(Port {
+        Port {
             rings,
             sender: Sender::new(queue, largest),
             receiver: Receiver::new(alloc),
-        })
+        }
     }
 
     /// Begins a frame, of one byte at least: as one entry, or on version 5 as so many as its bytes fill. Room for all
@@ -267,6 +263,26 @@ impl Port {
         self.receiver.copy(pair, side, at)
     }
 
+    /// The frame that the next [`Port::copy`] delivers, if it delivers one: a frame of its own, which leaves the port
+    /// as it is.
+    ///
+    /// # Errors
+    ///
+    /// [`AllocError`] from out of memory alone, and only where there is such a frame.
+    pub fn frame_due(&self, alloc: Global, pair: &Pair) -> Result<Option<Frame>, AllocError>
+        requires { pair.now.plan ≡ self.now.plan }
+        ensures value { IfOk result (λ due. due ≡ frame_due self.now pair.now) }
+        ensures wants { OnErr result (IsSome (frame_due self.now pair.now)) }
+    {
+        let Phase::Copying = self.receiver.phase() else {
+            return Ok(None);
+        };
+        let _plan = pair.plan();
+        let side = self.rings.side();
+        let at = slot_at(&self.rings, self.receiver.got()) + self.receiver.part_offset();
+        self.receiver.frame_due(alloc, pair, side, at)
+    }
+
     /// Zeroes the flags of the entry that was copied, in the side's own memory, and answers its number; `None` exactly
     /// where none was. It takes no memory.
     pub fn clear(&mut self, pair: &mut Pair) -> Option<u64>
@@ -339,13 +355,12 @@ impl Port {
     ///
     /// # Errors
     ///
-    /// [`AllocError`] from out of memory, or where `usize::MAX` copies of the port share its plan already, since its
-    /// `Rc` can't count one more. No memory has room for so many.
+    /// [`AllocError`] from out of memory alone.
     pub fn copy_of(&self, alloc: Global) -> Result<Port, AllocError>
         ensures { IfOk result (λ copy. copy ≡ self.now) }
     {
         Ok(Port {
-            rings: self.rings.copy_of()?,
+            rings: self.rings.copy_of(),
             sender: self.sender.copy_of(alloc)?,
             receiver: self.receiver.copy_of(alloc)?,
         })

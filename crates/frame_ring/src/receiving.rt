@@ -1,10 +1,10 @@
 //! The receiver's end: where it stands with the entry at hand.
 
-ghost use Rattle.std.specs.Prelude.{◌≡◌, ◌↔◌, ℕ, ◌+◌, ◌-◌, ◌*◌, ◌<◌, ◌≤◌, ◌++◌, IfOk, IsTrue, OnErr, OnOk, length, min, true};
+ghost use Rattle.std.specs.Prelude.{◌≡◌, ◌↔◌, ℕ, ◌+◌, ◌-◌, ◌*◌, ◌<◌, ◌≤◌, ◌++◌, IfOk, IsSome, IsTrue, OnErr, OnOk, length, min, true};
 ghost use Rattle.lane_model.specs.Lane.{chunk_size};
 ghost use Rattle.bridge_pair.specs.Bridge.{bytes_of};
 ghost use Rattle.byte_model.specs.Headers.{found_with};
-ghost use Rattle.frame_ring.specs.Calls.{last_got, look_found, part_answer, part_copied};
+ghost use Rattle.frame_ring.specs.Calls.{frame_of_copy, last_got, look_found, part_answer, part_copied};
 ghost use Rattle.frame_ring.specs.Incoming.{next_part};
 ghost use Rattle.frame_ring.specs.Outgoing.{most_numbers};
 ghost use Rattle.frame_ring.specs.Rings.{header_of, address_limit};
@@ -27,7 +27,7 @@ use plan_numbers::{CHUNK_SIZE, chunks_in};
 use ring_geometry::ver_of;
 use std::alloc::{AllocError, Global};
 use std::marker::Model;
-use step_kinds::{LaneCopy, Side};
+use step_kinds::{Frame, LaneCopy, Side};
 
 /// How far a side is with what it receives on a queue.
 #[derive(Drop)]
@@ -208,6 +208,34 @@ impl Receiver {
             number,
             frame: self.gathered.deliver(),
         }
+    }
+
+    /// The frame that the next copy delivers, if it delivers one: a frame of its own, and what was gathered stays. The
+    /// next part of the entry at hand stands at this address of the side's memory.
+    ///
+    /// # Errors
+    ///
+    /// [`AllocError`] from out of memory alone, and only where there is such a frame.
+    pub fn frame_due(
+        &self,
+        alloc: Global,
+        pair: &Pair,
+        side: Side,
+        at: u64,
+    ) -> Result<Option<Frame>, AllocError>
+        requires copying { is_copying self.now.phase ≡ true }
+        requires within { at + next_part self.now ≤ length (bytes_of pair.now side) }
+        ensures value { IfOk result (λ due. due ≡ frame_of_copy (part_answer self.now (self.now.gathered ++ bytes_at at (next_part self.now) (bytes_of pair.now side)))) }
+        ensures wants { OnErr result (IsSome (frame_of_copy (part_answer self.now (self.now.gathered ++ bytes_at at (next_part self.now) (bytes_of pair.now side))))) }
+    {
+        let part = self.part;
+        let rest = self.len - CHUNK_SIZE * part;
+        if part + 1 < chunks_in(self.len) || self.left > 0 {
+            return Ok(None);
+        }
+        let mut gathered = self.gathered.copy_of(alloc)?;
+        gathered.read(pair, side, at, rest.min(CHUNK_SIZE) as usize);
+        Ok(Some(gathered.deliver()))
     }
 
     /// The flags of the entry that was copied are cleared.

@@ -1,6 +1,6 @@
 //! The rings of one queue of one side.
 
-ghost use Rattle.std.specs.Prelude.{◌≡◌, ◌==◌, ◌+◌, ◌*◌, ◌%◌, ◌<◌, ◌≤◌, IfOk};
+ghost use Rattle.std.specs.Prelude.{◌≡◌, ◌==◌, ◌+◌, ◌*◌, ◌%◌, ◌<◌, ◌≤◌};
 ghost use Rattle.step_kinds.specs.Limits.{most_frame_bytes};
 ghost use Rattle.plan_numbers.specs.Memories.{memory_size};
 ghost use Rattle.byte_model.specs.Addresses.{own_address as own_address_of, own_header, own_index_word, own_slot};
@@ -16,16 +16,14 @@ ghost use Rattle.ring_geometry.specs.Geometry.{IsPlaced, entries_of, frame_size,
 use plan_numbers::{copy_of, receiving_ring, sending_ring, speaks_five};
 use ring_geometry::Geometry;
 use ring_geometry::laws::ring_has_two_entries;
-use std::alloc::{AllocError, Global};
 use std::marker::Model;
-use std::rc::Rc;
 use step_kinds::{PairPlan, Side};
 
 /// The rings of one queue of one side: the one that it sends to in the peer's memory, and the one that it receives in
-/// in its own. They never change, and a copy shares the pair's plan.
+/// in its own. They never change, and have a copy of the pair's plan.
 #[derive(Drop)]
 pub struct QueueRings {
-    plan: Rc<PairPlan, Global>,
+    plan: PairPlan,
     side: Side,
     queue: u32,
     out: Geometry,
@@ -37,55 +35,38 @@ pub struct QueueRings {
 impl QueueRings {
     ghost use Rattle.frame_ring.specs.Rings.{QueueOf};
 
-    /// The rings of one of a side's queues.
-    ///
-    /// # Errors
-    ///
-    /// [`AllocError`] from out of memory alone.
-    pub fn new(
-        alloc: Global,
-        plan: &PairPlan,
-        side: Side,
-        queue: u32,
-    ) -> Result<QueueRings, AllocError>
+    /// The rings of one of a side's queues, by a copy of the plan. It takes no memory.
+    pub fn new(plan: &PairPlan, side: Side, queue: u32) -> QueueRings
         requires declared { IsPair plan.now }
         requires among { queue < (side_plan_of plan.now side).queues }
-        ensures { IfOk result (λ rings. rings ≡ record { plan = plan.now; side = side; queue = queue }) }
+        ensures { result ≡ record { plan = plan.now; side = side; queue = queue } }
     {
         let out = sending_ring(plan, side, queue);
         let into = receiving_ring(plan, side, queue);
-        let Ok(plan) = Rc::new(alloc, copy_of(plan)) else {
-            return Err(AllocError);
-        };
-        Ok(QueueRings {
-            plan,
+        QueueRings {
+            plan: copy_of(plan),
             side,
             queue,
             out,
             into,
             out_window: out.window_of(),
             into_window: into.window_of(),
-        })
+        }
     }
 
-    /// The rings of the same queue, which share the plan with these. It takes no memory.
-    ///
-    /// # Errors
-    ///
-    /// [`AllocError`] where `usize::MAX` copies of these rings share the plan already, since its [`Rc`] can't count one
-    /// more. No memory has room for so many.
-    pub fn copy_of(&self) -> Result<QueueRings, AllocError>
-        ensures { IfOk result (λ copy. copy ≡ self.now) }
+    /// The rings of the same queue. It takes no memory.
+    pub fn copy_of(&self) -> QueueRings
+        ensures { result ≡ self.now }
     {
-        Ok(QueueRings {
-            plan: self.plan.clone()?,
+        QueueRings {
+            plan: copy_of(&self.plan),
             side: self.side,
             queue: self.queue,
             out: self.out,
             into: self.into,
             out_window: self.out_window,
             into_window: self.into_window,
-        })
+        }
     }
 
     /// The side, of a queue that it has.
@@ -108,7 +89,7 @@ impl QueueRings {
     pub fn plan(&self) -> &PairPlan
         ensures { result.now ≡ self.now.plan }
     {
-        self.plan.as_ref()
+        &self.plan
     }
 
     /// The ring that the side sends to.
@@ -149,7 +130,7 @@ impl QueueRings {
     pub fn speaks_five(&self) -> bool
         ensures { result ≡ (agreed_version self.now.plan == 5) }
     {
-        speaks_five(self.plan.as_ref())
+        speaks_five(&self.plan)
     }
 
     /// The most bytes of a frame that is sent.

@@ -79,6 +79,7 @@ pub record ReadsAll (limit : ℕ) (result : Result (Vec ℕ Global) ReadError) (
   pub calm : (IsErrOf result ReadFault → ⊥) → faults' ≡ faults
   pub rest : HasGivenAtMost (limit + 1) before left
   pub reads : HasGivenAtReads (limit + 1) before left begun ended
+  pub reads_ok : IfOk result (λ bytes. ended ≤ begun + length bytes.items + 1)
   pub reads_long : IsErrOf result TooLong → ended ≤ begun + limit + 1
 
 -- an error of the source or of the memory
@@ -100,6 +101,7 @@ ReadsAll-at_error limit result error before left bytes faults faults' reads read
       calm = λ n. calm (λ e. n (ap Err e));
       rest = (bytes, omega arith, given);
       reads = (bytes, omega arith, count, given);
+      reads_ok = tt;
       reads_long = λ e. absurd (not_long (cc));
     })
 
@@ -121,6 +123,7 @@ ReadsAll-at_end limit bytes before left faults faults' reads reads' given few no
       calm = λ _. calm;
       rest = (bytes.items, omega arith, given);
       reads = (bytes.items, omega arith, omega arith, given);
+      reads_ok = omega arith;
       reads_long = λ e. absurd (cc);
     }
 
@@ -143,5 +146,6 @@ ReadsAll-at_too_long limit before left bytes faults faults' reads reads' given f
       calm = λ _. calm;
       rest = (bytes.items, omega arith, given);
       reads = (bytes.items, omega arith, omega arith, given);
+      reads_ok = tt;
       reads_long = λ _. omega arith;
     }

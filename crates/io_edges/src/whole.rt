@@ -90,6 +90,7 @@ pub fn read_all<S: Source>(
     // In every outcome.
     ensures rest { HasGivenAtMost (limit + 1) (S.left source.old) (S.left source.new) }
     ensures reads { HasGivenAtReads (limit + 1) (S.left source.old) (S.left source.new) (S.reads source.old) (S.reads source.new) }
+    ensures reads_ok { IfOk result (λ bytes. S.reads source.new ≤ S.reads source.old + length bytes.items + 1) }
     ensures reads_long { IsErrOf result ReadError.TooLong → S.reads source.new ≤ S.reads source.old + limit + 1 }
 {
     let mut buffer = zeros(alloc, PIECE.min(limit + 1))?;

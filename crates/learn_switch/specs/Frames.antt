@@ -1,11 +1,11 @@
 -- A switch of frames that are their bytes.
-use Rattle.std.specs.Prelude.{◌≡◌, ℕ, ◌<◌, ◌≤◌, List, length}
+use Rattle.std.specs.Prelude.{◌≡◌, ℕ, ◌<◌, ◌≤◌, Bool, true, false, List, length}
 use Rattle.std.specs.List.{AllByRecursion}
 use Rattle.switch_model.specs.Fdb.{AreBelow}
 use Rattle.switch_model.specs.declared.Station.{Station}
 use Rattle.switch_model.specs.Switch.{Switch, after_relay, header_bytes, relay_answer}
 use Rattle.switch_model.specs.declared.RelayAnswer.{RelayAnswer}
-use Rattle.switch_model.specs.declared.RelayAnswer.TheVariants.{To}
+use Rattle.switch_model.specs.declared.RelayAnswer.TheVariants.{Flood, To}
 
 abbrev pub Bytes : Type 0
 Bytes = Switch (List ℕ)
@@ -20,6 +20,12 @@ bytes_after_relay switch port = after_relay (λ bytes. bytes) switch port
 abbrev pub GoesBelow : ℕ → RelayAnswer → Type 0
 GoesBelow ports (To target) = target < ports
 GoesBelow ports _ = Unit {0}
+
+-- whether a frame that was relayed waits at another port, or at all others
+abbrev pub goes_on : RelayAnswer → Bool
+goes_on (To target) = true
+goes_on (Flood count) = true
+goes_on answer = false
 
 -- a frame that has an Ethernet header
 abbrev pub HasHeader : List ℕ → Type 0

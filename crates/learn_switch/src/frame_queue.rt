@@ -24,6 +24,19 @@ impl FrameQueue {
         }
     }
 
+    /// The frame joins, as the last one.
+    ///
+    /// # Errors
+    ///
+    /// [`AllocError`] from out of memory alone, and then nothing joined.
+    pub fn push(&mut self, frame: Frame) -> Result<(), AllocError>
+        ensures ok { OnOk result (self.new ≡ self.old ++ frame ∷ []) }
+        ensures err { OnErr result (self.new ≡ self.old) }
+    {
+        self.frames.push_back(frame)?;
+        Ok(())
+    }
+
     /// A copy of the frame joins, as the last one.
     ///
     /// # Errors
@@ -34,8 +47,7 @@ impl FrameQueue {
         ensures err { OnErr result (self.new ≡ self.old) }
     {
         let copy = frame.copy_of(alloc)?;
-        self.frames.push_back(copy)?;
-        Ok(())
+        self.push(copy)
     }
 
     /// The first frame, if there is one.

@@ -1,9 +1,9 @@
 //! A switch.
 
-ghost use Rattle.std.specs.Prelude.{◌≡◌, ◌↔◌, ◌<◌, ◌≤◌, [], length, IfErr, IfOk, IfSome, IsTrue, OnErr, OnOk, option_copied};
+ghost use Rattle.std.specs.Prelude.{◌≡◌, ◌↔◌, ◌<◌, ◌≤◌, [], length, IfErr, IfOk, IfSome, IsTrue, OnErr, OnOk, option_copied, true};
 ghost use Rattle.switch_model.specs.Switch.{arrived, first, forward_answer, forwarded, header_bytes, list_of, new_switch, sent};
 ghost use Rattle.switch_model.specs.Fdb.{AreBelow, destination, learned_source, lookup, source};
-ghost use Rattle.learn_switch.specs.Frames.{GoesBelow, HasHeader, AllHaveHeaders, bytes_after_relay, bytes_relay_answer};
+ghost use Rattle.learn_switch.specs.Frames.{GoesBelow, HasHeader, AllHaveHeaders, bytes_after_relay, bytes_relay_answer, goes_on};
 
 use crate::fdb::{Fdb, is_multicast};
 use crate::frame_queue::{FrameQueue, copies, empty_queues, push_to_others};
@@ -44,17 +44,17 @@ impl Switch {
         })
     }
 
-    /// A copy of the frame joins the inbox of a port, as its last one. The port is below the number of ports.
+    /// The frame joins the inbox of a port, as its last one. The port is below the number of ports.
     ///
     /// # Errors
     ///
     /// [`AllocError`] from out of memory alone, and then nothing changes.
-    pub fn arrive(&mut self, port: u32, frame: &Frame) -> Result<(), AllocError>
+    pub fn arrive(&mut self, port: u32, frame: Frame) -> Result<(), AllocError>
         requires { port < length self.old.inboxes }
-        ensures ok { OnOk result (self.new ≡ arrived self.old port frame.now) }
+        ensures ok { OnOk result (self.new ≡ arrived self.old port frame) }
         ensures err { OnErr result (self.new ≡ self.old) }
     {
-        self.inboxes[port as usize].push_copy(self.alloc, frame)
+        self.inboxes[port as usize].push(frame)
     }
 
     /// Relays the first frame of a port's inbox. The port is below the number of ports.
@@ -72,12 +72,14 @@ impl Switch {
     ///
     /// # Errors
     ///
-    /// [`AllocError`] from out of memory alone, and then nothing changes: the frame stays in the inbox.
+    /// [`AllocError`] from out of memory alone, and only where the frame is to wait at another port. Then nothing
+    /// changes: the frame stays in the inbox.
     pub fn relay(&mut self, port: u32) -> Result<RelayAnswer, AllocError>
         requires { port < length self.old.inboxes }
         ensures answer { IfOk result (λ answer. answer ≡ bytes_relay_answer self.old port) }
         ensures after { OnOk result (self.new ≡ bytes_after_relay self.old port) }
         ensures err { OnErr result (self.new ≡ self.old) }
+        ensures wants { OnErr result (goes_on (bytes_relay_answer self.old port) ≡ true) }
     {
         let place = port as usize;
         let Some(frame) = self.inboxes[place].first() else {
@@ -216,6 +218,7 @@ fn forward(
     requires { GoesBelow (length waiting.old.items) answer }
     ensures ok { OnOk result (waiting.new.items ≡ forwarded waiting.old.items port frame.now answer) }
     ensures err { OnErr result (waiting.new.items ≡ waiting.old.items) }
+    ensures wants { OnErr result (goes_on answer ≡ true) }
     ensures ports { length waiting.new.items ≡ length waiting.old.items }
 {
     match answer {

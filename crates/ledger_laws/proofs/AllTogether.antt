@@ -18,6 +18,7 @@ use Rattle.ledger_laws.proofs.CountersAreCounts.{counters_are_counts}
 use Rattle.ledger_laws.proofs.FlightOfLog.{in_flight_is_posted}
 use Rattle.ledger_laws.proofs.FoundInOrder.{empty_where_nothing_landed, peer_down_where_down_landed}
 use Rattle.ledger_laws.proofs.FramesInOrder.{every_frame_comes_once, every_log_is_in_order}
+use Rattle.ledger_laws.proofs.FreshLanes.{no_entry_before_both_up}
 use Rattle.ledger_laws.proofs.JoinedMeansAgreement.{in_range, joined_means_agreement, up_side_agrees}
 use Rattle.ledger_laws.proofs.LanePart.{lane_part_lands}
 use Rattle.ledger_laws.proofs.LinkDownWhereNotUp.{link_down_where_not_up}
@@ -78,6 +79,7 @@ laws_hold plan memories steps declared permitted apart = record {
   index_word = λ lane ordinary ring up. index_word_is_tail plan memories steps lane ordinary (are_ordinary plan lane.pair ordinary steps permitted) ring up;
   agreement = λ pair side among ordinary up. up_side_agrees plan memories steps pair side (declared.pairs pair among) (are_ordinary plan pair ordinary steps permitted) up;
   joined = λ pair side queue among ordinary joined. joined_means_agreement plan memories steps pair side queue (declared.pairs pair among) (are_ordinary plan pair ordinary steps permitted) joined;
+  before_both_up = λ pair side from queue ordinary late. no_entry_before_both_up plan memories steps pair side from queue ordinary (are_ordinary plan pair ordinary steps permitted) late;
 }
 
 -- In a log of permitted steps each answer is what the log before it says, and a refusal changes no more than a count.

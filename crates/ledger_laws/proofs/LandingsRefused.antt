@@ -16,7 +16,8 @@ use Rattle.ledger_model.specs.Ledger.{PairPart, side_of}
 use Rattle.ledger_model.specs.Log.{Memories, ledger_of}
 use Rattle.ledger_model.specs.Outcome.{decided, refuse_if}
 use Rattle.ledger_model.specs.Receiving.{land_found, land_step, lands_on, taken_out}
-use Rattle.ledger_laws.specs.Laws.{GoesOn, is_made}
+use Rattle.ledger_laws.specs.Laws.{GoesOn}
+use Rattle.step_kinds.specs.Answers.{is_made}
 use Rattle.ledger_laws.proofs.LogGrowth.{answer_of}
 
 refused_there : (plan : PairPlan) (pair : PairPart) (side : Side) (place : ℕ) (found : Option Label)

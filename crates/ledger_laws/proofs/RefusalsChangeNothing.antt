@@ -15,7 +15,8 @@ use Rattle.ledger_model.specs.Log.{log_of, ledger_of}
 use Rattle.ledger_model.specs.Next.{Ledger, read_next}
 use Rattle.ledger_model.specs.Outcome.{Outcome}
 use Rattle.ledger_model.specs.Reading.{Reading, reading_of}
-use Rattle.ledger_laws.specs.Laws.{is_made, after_refusal, RefusalsChangeNothing}
+use Rattle.ledger_laws.specs.Laws.{after_refusal, RefusalsChangeNothing}
+use Rattle.step_kinds.specs.Answers.{is_made}
 use Rattle.ledger_laws.proofs.LogGrowth.{answer_of, left_by, ledger_of-last}
 use Rattle.ledger_laws.proofs.walk.Cases.{enable_cases, train_cases, break_cases, drop_cases, clean_cases, offer_cases, check_cases, ready_cases, join_cases, begin_cases, qpdown_cases, xbegin_cases, post_cases, land_cases, look_cases, copy_cases, clear_cases, ack_cases, wake_cases}
 

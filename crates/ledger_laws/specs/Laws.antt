@@ -1,6 +1,7 @@
 -- The laws of every log.
 use Rattle.std.specs.Prelude.{◌≡◌, ℕ, ◌+◌, ◌<◌, ◌==◌, Bool, true, false, ◌&&◌, ◌||◌, ◌⊎◌, Option, Some, None, List, [], ◌∷◌, ◌++◌, count_by, length, filter, max, nat_lt, not, if◌then◌else◌, ◌≤◌, ◌/◌, ◌%◌}
 use Rattle.std.specs.List.{AllByRecursion}
+use Rattle.step_kinds.specs.Answers.{is_made}
 use Rattle.step_kinds.specs.Bits.{has_bit}
 use Rattle.step_kinds.specs.Sides.{other_side}
 use Rattle.step_kinds.specs.Subject.{subject_of}
@@ -9,7 +10,7 @@ use Rattle.step_kinds.specs.declared.names.Side.{Side}
 use Rattle.step_kinds.specs.declared.plan.SidePlan.{SidePlan}
 use Rattle.step_kinds.specs.declared.plan.Plan.{Plan}
 use Rattle.step_kinds.specs.declared.steps.Answer.{Answer}
-use Rattle.step_kinds.specs.declared.steps.Answer.TheVariants.{Ok as Done, OkSession, OkNumber, LinkDown, Offered, Up, Joined, Again, Posted, Landed, PeerDown, ReadyFrame, Copied, Delivered, Cleared, Acked, Awake, Irq as IrqBits, Mem, PadValue, QueueShown, VerDiffers, Long, Short, Filtered, To, Flood}
+use Rattle.step_kinds.specs.declared.steps.Answer.TheVariants.{LinkDown, Up, Again, Copied, Delivered, Cleared, VerDiffers, Long}
 use Rattle.step_kinds.specs.declared.steps.Label.{Label}
 use Rattle.step_kinds.specs.declared.steps.Step.{Step}
 use Rattle.step_kinds.specs.declared.steps.Step.TheVariants.{Offer, Check, Ready, Join, Begin, QpDown, Xbegin, Copy, Clear, Spad, Poke}
@@ -181,33 +182,6 @@ UpMeansAgreement = (plan : Plan) (memories : Memories) (steps : List Step) (pair
     Agrees (log_of plan memories steps) pair side (side_plan (pair_plan plan pair) side) (side_plan (pair_plan plan pair) (other_side side))
 
 -- Refusals
-
--- whether a step was made, by its answer: any other answer is a refusal
-abbrev pub is_made : Answer → Bool
-is_made Done = true
-is_made (OkSession session) = true
-is_made (OkNumber number) = true
-is_made (Offered index) = true
-is_made Up = true
-is_made Joined = true
-is_made (Posted label) = true
-is_made (Landed label) = true
-is_made PeerDown = true
-is_made (ReadyFrame number len) = true
-is_made (Copied number part) = true
-is_made (Delivered number frame) = true
-is_made (Cleared number) = true
-is_made (Acked number) = true
-is_made Awake = true
-is_made (IrqBits bits) = true
-is_made (Mem bytes) = true
-is_made (PadValue value) = true
-is_made (QueueShown count label) = true
-is_made (Short len) = true
-is_made Filtered = true
-is_made (To port) = true
-is_made (Flood count) = true
-is_made answer = false
 
 -- a pair once a step on it was refused: a device counts the refusal of its frame, and nothing else changes
 abbrev pub after_refusal : PairPart → Step → PairPart

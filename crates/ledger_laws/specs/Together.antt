@@ -29,9 +29,10 @@ use Rattle.ledger_laws.specs.Devices.{finds_full, finds_stopped, is_stopped_answ
 use Rattle.ledger_laws.specs.Drivers.{finds_busy, finds_closed, finds_down, finds_long, finds_nothing, is_busy_answer, is_closed, is_empty_answer, is_not_ready, is_peer_down, is_too_long, lacks_queue}
 use Rattle.ledger_laws.specs.Flights.{in_flight as in_flight_by}
 use Rattle.ledger_laws.specs.Landing.{LandsInLane}
-use Rattle.ledger_laws.specs.Laws.{Agrees, FitsLook, GoesOn, IsDone, IsInOrder, IsOrdinaryPair, IsQuiet, KeepsPairsApart, after_refusal, has_forgotten, is_again, is_link_down, is_made, is_unlike, labels_from, made_on, needs_link, steps_on, times_of}
+use Rattle.ledger_laws.specs.Laws.{Agrees, FitsLook, GoesOn, IsDone, IsInOrder, IsOrdinaryPair, IsQuiet, KeepsPairsApart, after_refusal, has_forgotten, is_again, is_link_down, is_unlike, labels_from, made_on, needs_link, steps_on, times_of}
+use Rattle.step_kinds.specs.Answers.{is_made}
 use Rattle.ledger_laws.specs.Rings.{with_tail}
-use Rattle.ledger_laws.specs.States.{AgreesWith, HasNothingInFlight}
+use Rattle.ledger_laws.specs.States.{AgreesWith, HasNoEntry, HasNotComeUp, HasNothingInFlight}
 
 -- Of the log of steps, and of the ledger after them
 pub record HoldsLaws (plan : Plan) (memories : Memories) (steps : List Step) : Type 0 where
@@ -83,6 +84,10 @@ pub record HoldsLaws (plan : Plan) (memories : Memories) (steps : List Step) : T
   pub agreement : (pair : ℕ) (side : Side) → IsPairOf plan pair → IsOrdinaryPair plan pair → (side_of (ledger_of plan memories steps pair) side).up ≡ true →
       AgreesWith (side_plan (pair_plan plan pair) side) (side_plan (pair_plan plan pair) (other_side side))
   pub joined : (pair : ℕ) (side : Side) (queue : ℕ) → IsPairOf plan pair → IsOrdinaryPair plan pair → has_bit (side_of (ledger_of plan memories steps pair) side).joined queue ≡ true → Agree (pair_plan plan pair)
+  -- until both sides of an ordinary pair have come up in a session no lane has an entry in it, and nothing of a lane is
+  -- in flight
+  pub before_both_up : (pair : ℕ) (side from : Side) (queue : ℕ) → IsOrdinaryPair plan pair → HasNotComeUp (ledger_of plan memories steps pair) side →
+      HasNoEntry (ledger_of plan memories steps pair) from queue
 
 -- Of the answer to one step more: it says nothing but what the log so far says
 pub record IsRightAnswer (plan : Plan) (memories : Memories) (steps : List Step) (step : Step) (answer : Answer) : Type 0 where

@@ -1,4 +1,4 @@
--- Where nothing outside fails, a command that reads answers all bytes of its source.
+-- Where nothing outside fails, a command that reads answers all bytes of its source, and a load writes its summary.
 use Rattle.std.proofs.Common.{◌≡◌, ◌∙◌, ℕ, ◌+◌, ◌≤◌, Bool, true, false, Option, Some, Result, Ok, Err, List, [], ◌++◌, length, inl, inr, refl, sym, subst, ap, arith, nat_lt, append-nil, MatchBool}
 use Rattle.std.proofs.lemmas.Bool.{le-ltb, false≢true}
 use Rattle.std.proofs.lemmas.List.{length-append}
@@ -8,7 +8,7 @@ use Rattle.explore_command.specs.Answers.{ExploresTo}
 use Rattle.io_edges.specs.Whole.{HasGiven, HoldsAll}
 use Rattle.reads_command.specs.Answers.{output_of}
 use Rattle.replay_command.specs.Answers.{replayed}
-use Rattle.replay_command.specs.Replays.{replay_text}
+use Rattle.replay_command.specs.Replays.{load_text, replay_text}
 use Rattle.trace_command.specs.Answers.{traced}
 use Rattle.run_command.specs.Answers.{Carried, IsRunOfScript}
 use Rattle.script_text.specs.Script.{declared_by, script_of}
@@ -19,7 +19,7 @@ use Rattle.step_kinds.specs.declared.plan.Plan.{Plan}
 use Rattle.stream_command.specs.Answers.{IsStreamOfScript, Streamed}
 use Rattle.ntb_top.specs.Answers.{IsAnswerTo, IsReplyOf}
 use Rattle.ntb_top.specs.Commands.{command_of, command_reads, is_reading}
-use Rattle.ntb_top.specs.Completeness.{IsHonest, ReplaysComplete, RunsComplete}
+use Rattle.ntb_top.specs.Completeness.{IsHonest, LoadsComplete, ReplaysComplete, RunsComplete}
 use Rattle.ntb_top.specs.Runs.{EndsWhole, HasAnswered, HasReply, IsAtEnd, Outside}
 use Rattle.ntb_top.specs.declared.command.Command.{Command}
 use Rattle.ntb_top.specs.declared.command.Command.TheVariants.{Check, Explore, Load, Reads, Replay, Run, Stream, Trace}
@@ -85,7 +85,7 @@ whole_content command before after status content reads honest run whole =
     let status_ok : HasReply status = subst (λ (s : ℕ). HasReply s) (sym whole.status_is) (reply_status command run.bytes whole.output reads reply) in
     let none : taken.0 ≡ [] = subst (λ (l : Option (List ℕ)). IsAtEnd l) taken.2 (run.whole refl status_ok few) in
     let all : run.bytes ≡ content = sym (taken.1 ∙ ap (λ rest. run.bytes ++ rest) none ∙ append-nil run.bytes) in
-    record { output = whole.output; answers = subst (λ (bytes : List ℕ). IsReplyOf command bytes whole.output) all reply; status_is = whole.status_is; text = whole.text }
+    record { output = whole.output; answers = subst (λ (bytes : List ℕ). IsReplyOf command bytes whole.output) all reply; status_is = whole.status_is; text = whole.text; once = whole.once }
 
 -- Where source and sink don't fail, a command that reads answers the whole script in full, or is out of memory.
 pub runs_complete : RunsComplete
@@ -101,15 +101,39 @@ runs_complete command before after status content reads honest run = elim run.en
 ]
 
 -- the run of a command's words
-of_words : (words : List (List ℕ)) (command : Option Command) (before after : Outside) (status : ℕ) → HasAnswered (is_reading command) (IsAnswerTo command) before after status → command ≡ Some Replay → HasAnswered true (IsAnswerTo (Some Replay)) before after status
-of_words words command before after status run is = subst (λ (c : Option Command). HasAnswered (is_reading c) (IsAnswerTo c) before after status) is run
+of_words : (command : Command) (said : Option Command) (before after : Outside) (status : ℕ) → HasAnswered (is_reading said) (IsAnswerTo said) before after status → said ≡ Some command →
+    HasAnswered (command_reads command) (IsAnswerTo (Some command)) before after status
+of_words command said before after status run is = subst (λ (c : Option Command). HasAnswered (is_reading c) (IsAnswerTo c) before after status) is run
 
 -- Where source and sink don't fail, `replay` of a faultless script writes its whole report, or is out of memory.
 pub replays_complete : ReplaysComplete
 replays_complete words before after status content plan replay honest declares run =
-    elim (runs_complete Replay before after status content refl honest (of_words words (command_of words) before after status run replay)) [
+    elim (runs_complete Replay before after status content refl honest (of_words Replay (command_of words) before after status run replay)) [
       | inl whole ↦
           let answer : whole.output ≡ done (replay_text plan) = whole.answers.answer ∙ ap replayed declares in
           inl (whole.status_is ∙ ap (λ (o : Output). o.status) answer, subst (λ (o : Output). HoldsAll before.held after.held o.text) answer whole.text)
       | inr wanting ↦ inr wanting
+    ]
+
+-- a load that read nothing has written its summary
+load_written : (seed frames : ℕ) (bytes : List ℕ) (before after : Outside) (status : ℕ) → bytes ≡ [] → EndsWhole (IsAnswerTo (Some (Load seed frames)) bytes) before after status →
+    (status ≡ 0) × HoldsAll before.held after.held (load_text seed frames)
+load_written seed frames bytes before after status none whole =
+    let reply : IsReplyOf (Load seed frames) [] whole.output = subst (λ (read : List ℕ). IsAnswerTo (Some (Load seed frames)) read whole.output) none whole.answers in
+    let answer : whole.output ≡ done (load_text seed frames) = reply.answer in
+    (whole.status_is ∙ ap (λ (o : Output). o.status) answer, subst (λ (o : Output). HoldsAll before.held after.held o.text) answer whole.text)
+
+-- Where the sink doesn't fail, `load` writes its summary, or is out of memory.
+pub loads_complete : LoadsComplete
+loads_complete words before after status seed frames load calm said =
+    let run = of_words (Load seed frames) (command_of words) before after status said load in
+    elim run.ends [
+      | inl whole ↦ inl (load_written seed frames run.bytes before after status (run.unread refl).0 whole)
+      | inr others ↦ elim others [
+        | inl unread ↦ absurd (false≢true unread.reads)
+        | inr rest ↦ elim rest [
+          | inl cut ↦ absurd (calm cut.cause)
+          | inr wanting ↦ inr wanting
+        ]
+      ]
     ]

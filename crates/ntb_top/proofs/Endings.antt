@@ -30,6 +30,7 @@ read_on before after bytes value reply read =
     record {
       taken = read.taken;
       few = read.few;
+      reads = read.reads;
       unread = read.unread;
       whole = read.whole;
       failed = λ (is : Ok reply ≡ Err SourceFailed). cc;

@@ -1,6 +1,6 @@
 -- What a run comes to, by what reading, the reply and writing come to. All of it holds for any command and any relation
 -- between bytes and outputs.
-use Rattle.std.proofs.Common.{◌≡◌, ◌∙◌, ℕ, ◌+◌, ◌<◌, Bool, true, Option, Some, None, Result, Ok, Err, List, [], IfSome, length, take, drop, replicate, inl, inr, refl, sym, arith}
+use Rattle.std.proofs.Common.{◌≡◌, ◌∙◌, ℕ, ◌+◌, ◌<◌, ◌≤◌, Bool, true, Option, Some, None, Result, Ok, Err, List, [], IfSome, length, take, drop, replicate, inl, inr, refl, sym, arith}
 use Rattle.std.specs.Prelude.{IsErrOf}
 use Rattle.std.proofs.lemmas.Bool.{true≢false}
 use Rattle.std.proofs.lemmas.List.{length-replicate, length-take-le, take-append-drop}
@@ -41,11 +41,12 @@ err_known P (Some content) read is h = h is
 pub not_failed : {X : Type 0} (read : Result X ReadError) → read ≡ Err ReadTooLong → IsErrOf read ReadFault → ⊥
 not_failed read long failed = absurd (cc (long, failed))
 
--- The input of a command that reads is too long where the source gave one byte past the limit and didn't fail.
+-- The input of a command that reads is too long where the source gave one byte past the limit, each at a read, and
+-- didn't fail.
 pub input_too_long : (reading : Bool) (before after : Given) → reading ≡ true → IfSome before.left (λ content. most_script_bytes < length content) →
     IfSome before.left (λ content. after.left ≡ Some (drop (most_script_bytes + 1) content)) → HasGivenAtMost (most_script_bytes + 1) before.left after.left →
-    after.faults ≡ before.faults → HasInput reading before after (Ok TooLong)
-input_too_long reading before after reads long taken rest kept =
+    after.reads ≤ before.reads + most_script_bytes + 1 → after.faults ≡ before.faults → HasInput reading before after (Ok TooLong)
+input_too_long reading before after reads long taken rest count kept =
     let found = long_taken most_script_bytes before.left after.left long taken rest in
     let most : length found.0 ≡ most_script_bytes + 1 = found.1 in
     record {
@@ -54,6 +55,7 @@ input_too_long reading before after reads long taken rest kept =
           record {
             taken = found.2;
             few = omega arith;
+            reads = omega arith;
             unread = λ quiet. absurd (true≢false (sym reads ∙ quiet));
             whole = λ _ short. absurd (omega arith);
             failed = λ (is : Ok TooLong ≡ Err SourceFailed). cc;
@@ -65,10 +67,10 @@ input_too_long reading before after reads long taken rest kept =
 -- The run
 
 abbrev pub source_of : Outside → Given
-source_of outside = record { left = outside.left; faults = outside.read_faults }
+source_of outside = record { left = outside.left; faults = outside.read_faults; reads = outside.reads }
 
 abbrev pub sink_of : Outside → Held
-sink_of outside = record { held = outside.held; faults = outside.write_faults }
+sink_of outside = record { held = outside.held; faults = outside.write_faults; writes = outside.writes }
 
 -- a run that has its reply, whether all of the text is written or a part
 unfoldable pub run_answered : (reading : Bool) (IsAnswer : List ℕ → Output → Type 0) (before after : Outside) (output : Output) (status : ℕ) →
@@ -80,17 +82,18 @@ run_answered reading IsAnswer before after output status replied written =
       bytes = replied.bytes;
       taken = replied.read.taken;
       few = replied.read.few;
-      unread = λ quiet. (replied.read.unread quiet, kept);
+      reads = replied.read.reads;
+      unread = λ quiet. let none = replied.read.unread quiet in (none.0, none.1, kept);
       whole = λ reads answered. replied.read.whole reads;
       ends =
           elim written [
-            | inl w ↦ inl (record { output = output; answers = replied.answers; status_is = w.status_is; text = w.text })
+            | inl w ↦ inl (record { output = output; answers = replied.answers; status_is = w.status_is; text = w.text; once = w.once })
             | inr w ↦ inr (inr (inl (record { output = output; answers = replied.answers; status_is = w.status_is; cause = w.cause; text = w.text })))
           ];
       source_kept = λ _. kept;
       sink_kept = λ calm. elim written [ inl w ↦ w.kept | inr w ↦ absurd (calm w.status_is) ];
       headline = λ zero. elim written [
-        | inl w ↦ record { output = output; answers = replied.answers; status_is = w.status_is; text = w.text }
+        | inl w ↦ record { output = output; answers = replied.answers; status_is = w.status_is; text = w.text; once = w.once }
         | inr w ↦ absurd (omega (arith, zero, w.status_is))
       ];
     }
@@ -102,9 +105,10 @@ run_nothing reading IsAnswer outside =
       bytes = [];
       taken = nothing_given outside.left;
       few = omega arith;
-      unread = λ _. (refl, refl);
+      reads = omega arith;
+      unread = λ _. (refl, refl, refl);
       whole = λ reads answered few. absurd (answered.1 refl);
-      ends = inr (inr (inr (record { status_is = refl; silent = record { held = refl; faults = refl } })));
+      ends = inr (inr (inr (record { status_is = refl; silent = record { held = refl; faults = refl; writes = refl } })));
       source_kept = λ _. refl;
       sink_kept = λ _. refl;
       headline = λ (zero : 6 ≡ 0). absurd (omega arith);

@@ -1,7 +1,7 @@
 -- What a run of the program comes to: what it took from its source, what it wrote to its sink, and its exit status.
 use Rattle.std.specs.Prelude.{◌≡◌, ◌⊎◌, ℕ, ◌+◌, ◌≤◌, Bool, true, false, Option, Some, None, List, [], length}
 use Rattle.io_edges.specs.Causes.{Rose}
-use Rattle.io_edges.specs.Whole.{HasGiven, HoldsAll, HoldsPart}
+use Rattle.io_edges.specs.Whole.{HasGiven, HoldsAll, HoldsPartAtWrites}
 use Rattle.step_kinds.specs.Limits.{most_script_bytes}
 use Rattle.command_reply.specs.Output.{Output}
 use Rattle.command_reply.specs.Statuses.{number_of}
@@ -9,27 +9,31 @@ use Rattle.command_reply.specs.declared.status.Status.TheVariants.{Done, OutOfMe
 use Rattle.ntb_top.specs.Answers.{IsAnswerTo}
 use Rattle.ntb_top.specs.Commands.{command_of, reads_script}
 
--- the source and the sink at one moment: what is left and what is held, where they tell it, and how often each has
--- failed
+-- The source and the sink at one moment: what is left and what is held, where they tell it. Also how often each has
+-- failed, and how often it was read from or written to, where it counts that.
 pub record Outside : Type 0 where
   pub left : Option (List ℕ)
   pub read_faults : ℕ
+  pub reads : ℕ
   pub held : Option (List ℕ)
   pub write_faults : ℕ
+  pub writes : ℕ
 
--- nothing was written
+-- nothing was written, and no write was made
 pub record IsSilent (before after : Outside) : Type 0 where
   pub held : after.held ≡ before.held
   pub faults : after.write_faults ≡ before.write_faults
+  pub writes : after.writes ≡ before.writes
 
 -- The four ends of a run
 
--- an answer: its status, and its text written whole
+-- an answer: its status, and its text written whole, where each write took a byte of it
 pub record EndsWhole (IsAnswer : Output → Type 0) (before after : Outside) (status : ℕ) : Type 0 where
   pub output : Output
   pub answers : IsAnswer output
   pub status_is : status ≡ output.status
   pub text : HoldsAll before.held after.held output.text
+  pub once : after.writes ≤ before.writes + length output.text
 
 -- a failed read, of a command that reads
 pub record EndsUnread (reading : Bool) (before after : Outside) (status : ℕ) : Type 0 where
@@ -38,13 +42,14 @@ pub record EndsUnread (reading : Bool) (before after : Outside) (status : ℕ) :
   pub cause : Rose before.read_faults after.read_faults
   pub silent : IsSilent before after
 
--- a failed write: a part from the front of an answer's text, and not all of it, was written
+-- A failed write: a part from the front of an answer's text, and not all of it, was written. Each write but the last
+-- one took a byte of it.
 pub record EndsCut (IsAnswer : Output → Type 0) (before after : Outside) (status : ℕ) : Type 0 where
   pub output : Output
   pub answers : IsAnswer output
   pub status_is : status ≡ number_of SinkFailed
   pub cause : Rose before.write_faults after.write_faults
-  pub text : HoldsPart before.held after.held output.text
+  pub text : HoldsPartAtWrites before.held after.held output.text before.writes after.writes
 
 -- out of memory
 pub record EndsWanting (before after : Outside) (status : ℕ) : Type 0 where
@@ -70,8 +75,10 @@ pub record HasAnswered (reading : Bool) (IsAnswer : List ℕ → Output → Type
   -- they are what was taken from the source, never more than one byte past the limit
   pub taken : HasGiven before.left after.left bytes
   pub few : length bytes ≤ most_script_bytes + 1
-  -- a command that doesn't read takes nothing
-  pub unread : reading ≡ false → (bytes ≡ []) × (after.read_faults ≡ before.read_faults)
+  -- each read but the last one gave a byte of them
+  pub reads : after.reads ≤ before.reads + length bytes + 1
+  -- a command that doesn't read takes nothing, and no read is made
+  pub unread : reading ≡ false → (bytes ≡ []) × (after.reads ≡ before.reads) × (after.read_faults ≡ before.read_faults)
   -- one that does reads the source to its end, unless it is too long
   pub whole : reading ≡ true → HasReply status → length bytes ≤ most_script_bytes → IsAtEnd after.left
   -- it ends with an answer to these bytes, or fails outside, or is out of memory

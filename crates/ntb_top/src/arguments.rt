@@ -36,8 +36,22 @@ pub fn run_arguments<R: Threads + Wait + Sync, S: Source, K: Sink, G: Gate>(
 ) -> Ended
     requires { LetsWorkers (G.lets gate.now) most_stream_workers }
     ensures run { HasEnded (command_of (words_of arguments))
-        (record { left = S.left source.old; read_faults = S.faults source.old; held = K.held sink.old; write_faults = K.faults sink.old })
-        (record { left = S.left source.new; read_faults = S.faults source.new; held = K.held sink.new; write_faults = K.faults sink.new })
+        (record {
+          left = S.left source.old;
+          read_faults = S.faults source.old;
+          reads = S.reads source.old;
+          held = K.held sink.old;
+          write_faults = K.faults sink.old;
+          writes = K.writes sink.old;
+        })
+        (record {
+          left = S.left source.new;
+          read_faults = S.faults source.new;
+          reads = S.reads source.new;
+          held = K.held sink.new;
+          write_faults = K.faults sink.new;
+          writes = K.writes sink.new;
+        })
         result.status (beside_of result) }
     ensures wanting { AreWanting arguments → result.status ≡ number_of OutOfMemory }
 {

@@ -1,7 +1,7 @@
 //! What a run of each command means.
 
 ghost use Rattle.std.specs.Prelude.{◌≡◌, ℕ, Some, Ok, List};
-ghost use Rattle.ntb_top.specs.Completeness.{ReplaysComplete, RunsComplete};
+ghost use Rattle.ntb_top.specs.Completeness.{LoadsComplete, ReplaysComplete, RunsComplete};
 ghost use Rattle.ntb_top.specs.Laws.{ExplorationsAreTrue, LoadsAreTrue, ReadsAreTrue, ReplaysAreTrue, TracesAreTrue};
 
 /// Where `replay` ends with status 0, the bytes that were read declare a plan, its report was written, and the log of
@@ -23,8 +23,8 @@ pub fn reads_are_true()
 {}
 
 /// Where `trace` ends with status 0, the bytes that were read declare a plan, and its trace was written. In it, on each
-/// pair that isn't raw, each landing names the write that landed, each number stands once, and each blocked landing
-/// names an earlier write that stops it. No premise.
+/// pair, each landing names the write that landed, each number stands once, and each blocked landing names an earlier
+/// write that stops it. No premise.
 pub fn traces_are_true()
     ensures { TracesAreTrue }
 {}
@@ -51,4 +51,10 @@ pub fn runs_are_complete()
 #[tactic(auto, using(crate::proofs::CompleteRuns::replays_complete))]
 pub fn replays_are_complete()
     ensures { ReplaysComplete }
+{}
+
+/// Where the sink doesn't fail, `load` ends with status 0 or 6. With 0 it has written its summary, and with 6 nothing.
+#[tactic(auto, using(crate::proofs::CompleteRuns::loads_complete))]
+pub fn loads_are_complete()
+    ensures { LoadsComplete }
 {}

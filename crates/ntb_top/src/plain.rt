@@ -20,7 +20,8 @@ use std::alloc::{AllocError, Global};
 use trace_command::trace_reply;
 
 /// Does all that [`run_program`](crate::run_program) does on words that aren't `run` or `stream`, without threads, and
-/// answers the exit status. It always returns.
+/// answers the exit status. Each read but the last gives a byte, and each write but a failed last one takes a byte. It
+/// always returns.
 pub fn plain_program<S: Source, K: Sink>(
     alloc: Global,
     words: &[String],
@@ -29,8 +30,22 @@ pub fn plain_program<S: Source, K: Sink>(
 ) -> u8
     requires { IsPlain (command_by_words (map string_bytes words.now)) }
     ensures { HasRun (map string_bytes words.now)
-        (record { left = S.left source.old; read_faults = S.faults source.old; held = K.held sink.old; write_faults = K.faults sink.old })
-        (record { left = S.left source.new; read_faults = S.faults source.new; held = K.held sink.new; write_faults = K.faults sink.new })
+        (record {
+          left = S.left source.old;
+          read_faults = S.faults source.old;
+          reads = S.reads source.old;
+          held = K.held sink.old;
+          write_faults = K.faults sink.old;
+          writes = K.writes sink.old;
+        })
+        (record {
+          left = S.left source.new;
+          read_faults = S.faults source.new;
+          reads = S.reads source.new;
+          held = K.held sink.new;
+          write_faults = K.faults sink.new;
+          writes = K.writes sink.new;
+        })
         result }
 {
     match reply_to(alloc, words, source) {
@@ -44,8 +59,8 @@ pub fn plain_program<S: Source, K: Sink>(
 fn reply_to<S: Source>(alloc: Global, words: &[String], source: &mut S) -> Result<Reply, Stop>
     requires { IsPlain (command_by_words (map string_bytes words.now)) }
     ensures { HasReplied (reads_script (map string_bytes words.now)) (IsAnswerTo (command_by_words (map string_bytes words.now)))
-        (record { left = S.left source.old; faults = S.faults source.old })
-        (record { left = S.left source.new; faults = S.faults source.new }) result }
+        (record { left = S.left source.old; faults = S.faults source.old; reads = S.reads source.old })
+        (record { left = S.left source.new; faults = S.faults source.new; reads = S.reads source.new }) result }
 {
     match command_of(words) {
         None => Ok(Reply::usage()),
@@ -75,10 +90,10 @@ fn reply_of(alloc: Global, command: Command, bytes: &[u8]) -> Result<Reply, Allo
     }
 }
 
-/// Writes a reply, and answers its status, or that the sink failed.
+/// Writes a reply, and answers its status, or that the sink failed. Each write but a failed last one takes a byte.
 pub(crate) fn write_reply<K: Sink>(sink: &mut K, reply: &Reply) -> u8
-    ensures { HasWritten (record { held = K.held sink.old; faults = K.faults sink.old })
-        (record { held = K.held sink.new; faults = K.faults sink.new }) reply.now result }
+    ensures { HasWritten (record { held = K.held sink.old; faults = K.faults sink.old; writes = K.writes sink.old })
+        (record { held = K.held sink.new; faults = K.faults sink.new; writes = K.writes sink.new }) reply.now result }
 {
     match write_all(sink, reply.text()) {
         Ok(()) => reply.status(),

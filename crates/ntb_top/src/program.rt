@@ -26,9 +26,10 @@ use std::sync::Wait;
 use std::thread::Threads;
 
 /// Does all that the program does, and answers the exit status. It reads its input from the source where the words are
-/// a command that reads, and writes one text to the sink. On words that aren't `run` or `stream` it is one
-/// call of [`plain_program`]. On these two each worker passes the gate before each of its turns, and the end has the
-/// record whose text was written, with the proofs of its sessions.
+/// a command that reads, and writes one text to the sink. Each read but the last gives a byte, and each write but a
+/// failed last one takes a byte. On words that aren't `run` or `stream` it is one call of [`plain_program`]. On these
+/// two each worker passes the gate before each of its turns, and the end has the record whose text was written, with
+/// the proofs of its sessions.
 ///
 /// The gate has to let all workers with numbers below 524,280 pass, before each turn with a number below 2^64.
 ///
@@ -54,8 +55,22 @@ pub fn run_program<R: Threads + Wait + Sync, S: Source, K: Sink, G: Gate>(
 ) -> Ended
     requires { LetsWorkers (G.lets gate.now) most_stream_workers }
     ensures { HasEnded (command_by_words (map string_bytes words.now))
-        (record { left = S.left source.old; read_faults = S.faults source.old; held = K.held sink.old; write_faults = K.faults sink.old })
-        (record { left = S.left source.new; read_faults = S.faults source.new; held = K.held sink.new; write_faults = K.faults sink.new })
+        (record {
+          left = S.left source.old;
+          read_faults = S.faults source.old;
+          reads = S.reads source.old;
+          held = K.held sink.old;
+          write_faults = K.faults sink.old;
+          writes = K.writes sink.old;
+        })
+        (record {
+          left = S.left source.new;
+          read_faults = S.faults source.new;
+          reads = S.reads source.new;
+          held = K.held sink.new;
+          write_faults = K.faults sink.new;
+          writes = K.writes sink.new;
+        })
         result.status (beside_of result) }
 {
     match command_of(words) {
@@ -75,8 +90,22 @@ fn run_traffic<R: Threads + Wait + Sync, S: Source, K: Sink, G: Gate>(
 ) -> Ended
     requires { LetsWorkers (G.lets gate.now) most_stream_workers }
     ensures { HasEnded (Some Run)
-        (record { left = S.left source.old; read_faults = S.faults source.old; held = K.held sink.old; write_faults = K.faults sink.old })
-        (record { left = S.left source.new; read_faults = S.faults source.new; held = K.held sink.new; write_faults = K.faults sink.new })
+        (record {
+          left = S.left source.old;
+          read_faults = S.faults source.old;
+          reads = S.reads source.old;
+          held = K.held sink.old;
+          write_faults = K.faults sink.old;
+          writes = K.writes sink.old;
+        })
+        (record {
+          left = S.left source.new;
+          read_faults = S.faults source.new;
+          reads = S.reads source.new;
+          held = K.held sink.new;
+          write_faults = K.faults sink.new;
+          writes = K.writes sink.new;
+        })
         result.status (beside_of result) }
 {
     match run_of_input(rt, alloc, source, gate) {
@@ -95,8 +124,8 @@ fn run_of_input<R: Threads + Wait + Sync, S: Source, G: Gate>(
 ) -> Result<RunReply, Stop>
     requires { LetsWorkers (G.lets gate.now) most_stream_workers }
     ensures { HasReplied true (λ bytes run. IsRunAnswerTo bytes run.reply (carried_by run))
-        (record { left = S.left source.old; faults = S.faults source.old })
-        (record { left = S.left source.new; faults = S.faults source.new }) result }
+        (record { left = S.left source.old; faults = S.faults source.old; reads = S.reads source.old })
+        (record { left = S.left source.new; faults = S.faults source.new; reads = S.reads source.new }) result }
 {
     match read_input(alloc, true, source)? {
         Input::Whole(bytes) => Ok(run_reply(rt, alloc, &bytes, gate)?),
@@ -110,8 +139,8 @@ fn run_of_input<R: Threads + Wait + Sync, S: Source, G: Gate>(
 
 // Writes the reply of `run`. The record and the proofs are answered where the text was written whole and tells of them.
 fn written<K: Sink>(alloc: Global, sink: &mut K, run: RunReply) -> Ended
-    ensures text { HasWritten (record { held = K.held sink.old; faults = K.faults sink.old })
-        (record { held = K.held sink.new; faults = K.faults sink.new }) run.reply result.status }
+    ensures text { HasWritten (record { held = K.held sink.old; faults = K.faults sink.old; writes = K.writes sink.old })
+        (record { held = K.held sink.new; faults = K.faults sink.new; writes = K.writes sink.new }) run.reply result.status }
     ensures told { result.status ≡ number_of Done → beside_of result ≡ beside_run (carried_by run) }
     ensures alone { (result.status ≡ number_of Done → ⊥) → beside_of result ≡ nothing_beside }
 {

@@ -31,8 +31,22 @@ pub(crate) fn stream_traffic<R: Threads + Wait + Sync, S: Source, K: Sink, G: Ga
 ) -> Ended
     requires { LetsWorkers (G.lets gate.now) most_stream_workers }
     ensures { HasEnded (Some Stream)
-        (record { left = S.left source.old; read_faults = S.faults source.old; held = K.held sink.old; write_faults = K.faults sink.old })
-        (record { left = S.left source.new; read_faults = S.faults source.new; held = K.held sink.new; write_faults = K.faults sink.new })
+        (record {
+          left = S.left source.old;
+          read_faults = S.faults source.old;
+          reads = S.reads source.old;
+          held = K.held sink.old;
+          write_faults = K.faults sink.old;
+          writes = K.writes sink.old;
+        })
+        (record {
+          left = S.left source.new;
+          read_faults = S.faults source.new;
+          reads = S.reads source.new;
+          held = K.held sink.new;
+          write_faults = K.faults sink.new;
+          writes = K.writes sink.new;
+        })
         result.status (beside_of result) }
 {
     match streams_of_input(rt, alloc, source, gate) {
@@ -51,8 +65,8 @@ fn streams_of_input<R: Threads + Wait + Sync, S: Source, G: Gate>(
 ) -> Result<StreamReply, Stop>
     requires { LetsWorkers (G.lets gate.now) most_stream_workers }
     ensures { HasReplied true (λ bytes streams. IsStreamAnswerTo bytes streams.reply (streamed_by streams))
-        (record { left = S.left source.old; faults = S.faults source.old })
-        (record { left = S.left source.new; faults = S.faults source.new }) result }
+        (record { left = S.left source.old; faults = S.faults source.old; reads = S.reads source.old })
+        (record { left = S.left source.new; faults = S.faults source.new; reads = S.reads source.new }) result }
 {
     match read_input(alloc, true, source)? {
         Input::Whole(bytes) => Ok(stream_reply(rt, alloc, &bytes, gate)?),
@@ -67,8 +81,8 @@ fn streams_of_input<R: Threads + Wait + Sync, S: Source, G: Gate>(
 // Writes the reply of `stream`. The record and the proofs are answered where the text was written whole and tells of
 // them.
 fn streams_written<K: Sink>(alloc: Global, sink: &mut K, streams: StreamReply) -> Ended
-    ensures text { HasWritten (record { held = K.held sink.old; faults = K.faults sink.old })
-        (record { held = K.held sink.new; faults = K.faults sink.new }) streams.reply result.status }
+    ensures text { HasWritten (record { held = K.held sink.old; faults = K.faults sink.old; writes = K.writes sink.old })
+        (record { held = K.held sink.new; faults = K.faults sink.new; writes = K.writes sink.new }) streams.reply result.status }
     ensures told { result.status ≡ number_of Done → beside_of result ≡ beside_stream (streamed_by streams) }
     ensures alone { (result.status ≡ number_of Done → ⊥) → beside_of result ≡ nothing_beside }
 {

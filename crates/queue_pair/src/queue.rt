@@ -1,6 +1,6 @@
 //! Queue pairs and doorbell interrupts.
 
-ghost use Rattle.std.specs.Prelude.{◌≡◌, ◌↔◌, ◌+◌, ◌-◌, ◌<◌, ◌≤◌, true, IfOk, IsTrue, OnErr, OnOk, length};
+ghost use Rattle.std.specs.Prelude.{◌≡◌, ◌↔◌, ◌+◌, ◌-◌, ◌<◌, ◌≤◌, true, IfOk, IsSome, IsTrue, OnErr, OnOk, length};
 ghost use Rattle.bridge_pair.specs.Bridge.{flight_of, pages_of, with_pages};
 ghost use Rattle.bridge_pair.specs.Pages.{PagesGrow};
 ghost use Rattle.plan_model.specs.DeclaredPlans.{IsPair};
@@ -29,7 +29,7 @@ pub struct QueuePair {
 }
 
 impl QueuePair {
-    ghost use Rattle.frame_ring.specs.Calls.{TouchedByBegin, TouchedByDown, TouchedByFlags, TouchedByLook, ack_answer, acked_by, after_ack, after_clear, after_copy, after_post, clear_answer, cleared_by, copy_answer, free_answer, post_answer, posted_by, reset_by};
+    ghost use Rattle.frame_ring.specs.Calls.{TouchedByBegin, TouchedByDown, TouchedByFlags, TouchedByLook, ack_answer, acked_by, after_ack, after_clear, after_copy, after_post, clear_answer, cleared_by, copy_answer, frame_due, free_answer, post_answer, posted_by, reset_by};
     ghost use Rattle.frame_ring.specs.Port.{unused_of};
     ghost use Rattle.frame_ring.specs.PortView.{FitsRings, HasPagesIn, HasRoomIn, with_room};
     ghost use Rattle.queue_pair.specs.Gates.{BeginsFrame, FindsEntry, after_begin, after_look, after_qpdown, begin_answer, is_joined, look_answer, qpdown_answer, refuses_answer, sender_refusal};
@@ -37,25 +37,16 @@ impl QueuePair {
     ghost use Rattle.queue_pair.specs.Same.{IsSameQueue};
 
     /// The queue pair of one of a side's queues, open, with nothing sent and nothing received. The plan has to be one
-    /// that a script can declare.
-    ///
-    /// # Errors
-    ///
-    /// [`AllocError`] from out of memory alone.
-    pub fn new(
-        alloc: Global,
-        plan: &PairPlan,
-        side: Side,
-        queue: u32,
-    ) -> Result<QueuePair, AllocError>
+    /// that a script can declare. It takes no memory yet.
+    pub fn new(alloc: Global, plan: &PairPlan, side: Side, queue: u32) -> QueuePair
         requires among { queue < (side_plan_of plan.now side).queues }
         requires declared { IsPair plan.now }
-        ensures { IfOk result (λ queue_pair. queue_pair ≡ fresh_queue plan.now side queue) }
+        ensures { result ≡ fresh_queue plan.now side queue }
     {
-        Ok(QueuePair {
-            port: Port::new(alloc, plan, side, queue)?,
+        QueuePair {
+            port: Port::new(alloc, plan, side, queue),
             closed: false,
-        })
+        }
     }
 
     /// Begins a frame, of one byte at least, as [`Port::begin`] does.
@@ -209,6 +200,19 @@ impl QueuePair {
         ensures ready { HasPagesIn self.old.port pair.now → HasPagesIn self.new.port pair.now }
     {
         self.port.copy(pair)
+    }
+
+    /// The frame that the next [`QueuePair::copy`] delivers, as [`Port::frame_due`].
+    ///
+    /// # Errors
+    ///
+    /// [`AllocError`] as from [`Port::frame_due`].
+    pub fn frame_due(&self, alloc: Global, pair: &Pair) -> Result<Option<Frame>, AllocError>
+        requires { pair.now.plan ≡ self.now.port.plan }
+        ensures value { IfOk result (λ due. due ≡ frame_due self.now.port pair.now) }
+        ensures wants { OnErr result (IsSome (frame_due self.now.port pair.now)) }
+    {
+        self.port.frame_due(alloc, pair)
     }
 
     /// Zeroes the flags of the entry that was copied, as [`Port::clear`]. It takes no memory.

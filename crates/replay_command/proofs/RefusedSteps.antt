@@ -7,7 +7,7 @@ use Rattle.step_kinds.specs.declared.plan.Line.{Line}
 use Rattle.step_kinds.specs.declared.plan.Plan.{Plan}
 use Rattle.step_kinds.specs.declared.steps.Answer.{Answer}
 use Rattle.step_kinds.specs.declared.steps.Step.{Step}
-use Rattle.ledger_laws.specs.Laws.{is_made}
+use Rattle.step_kinds.specs.Answers.{is_made}
 use Rattle.step_list.specs.Compact.{lines_with, step_again}
 use Rattle.step_list.specs.declared.macros.Repeated.{Repeated}
 use Rattle.step_list.specs.declared.macros.Repeated.TheVariants.{Post, Land, Look, Copy, Clear, Ack, Offer}

@@ -9,11 +9,11 @@ ghost use Rattle.plan_model.specs.Macros.{receive};
 ghost use Rattle.step_list.specs.Compact.{lines_with, step_again};
 ghost use Rattle.step_list.specs.StepLists.{lines_in};
 ghost use Rattle.cluster_core.specs.Cluster.{plan_held};
-ghost use Rattle.ledger_laws.specs.Laws.{is_made as is_made_by};
+ghost use Rattle.step_kinds.specs.Answers.{is_made};
 ghost use Rattle.replay_command.specs.ReplaySteps.{HasKept, HasReplayed};
 ghost use Rattle.report_text.specs.Report.{AnsweredStep};
 
-use cluster_core::{Cluster, is_made, refused_again};
+use cluster_core::{Cluster, refused_again};
 use std::alloc::AllocError;
 use step_kinds::{LineAnswer, Side, Step};
 use step_list::{Repeated, StepList, Stretch};
@@ -28,7 +28,7 @@ pub trait KeepsAnswers {
 
     /// Keeps the same answer to a step that is refused so many times. The only error is out of memory.
     fn keep_times(&mut self, step: &Step, made: &LineAnswer, count: u32) -> Result<(), AllocError>
-        requires { is_made_by made.now.answer ≡ false }
+        requires { is_made made.now.answer ≡ false }
         ensures { OnOk result (self.new ≡ fold with_answer self.old (replicate count (record { step = step.now; made = made.now }))) };
 }
 
@@ -157,7 +157,7 @@ fn make_again<K: KeepsAnswers>(
         let step = repeated.step();
         let answer = cluster.step(&step)?;
         let answered = LineAnswer { line, answer };
-        if made + 1 < count && !is_made(&answered.answer) {
+        if made + 1 < count && !answered.answer.is_made() {
             refused_again();
             return kept.keep_times(&step, &answered, count - made);
         }

@@ -1,7 +1,7 @@
 //! Why a script is refused.
 
 ghost use Rattle.std.specs.Prelude.{◌≡◌};
-ghost use Rattle.script_words.specs.Causes.{cause_text};
+ghost use Rattle.script_words.specs.Causes.{cause_number, cause_text};
 ghost use Rattle.script_words.specs.Tests as tests;
 
 use pair_settings::Range;
@@ -15,6 +15,9 @@ use std::alloc::AllocError;
 /// 3. the first word and the number of words,
 /// 4. the other words from left to right, each one's spelling before what it names and its range,
 /// 5. the line as a whole.
+///
+/// Each cause has a [word](Cause::word) and a [number](Cause::number). In the order in which they stand here, the
+/// numbers are 1 to 10, 12 and 13.
 #[derive(Clone, Copy, Debug, PartialEq, Eq)]
 pub enum Cause {
     /// A byte of the line is neither a printed character nor a space.
@@ -67,6 +70,26 @@ impl Cause {
             Cause::TooMany => "toomany",
             Cause::BadPair => "badpair",
             Cause::BadSwitch => "badswitch",
+        }
+    }
+
+    /// The number of the cause: 1 to 10, 12 or 13, since no cause has the number 11.
+    pub fn number(self) -> u8
+        ensures { result ≡ cause_number self }
+    {
+        match self {
+            Cause::NotText => 1,
+            Cause::BadHeader => 2,
+            Cause::UnknownWord => 3,
+            Cause::BadNumber => 4,
+            Cause::BadName => 5,
+            Cause::Repeated => 6,
+            Cause::UnknownName => 7,
+            Cause::BadHex => 8,
+            Cause::BadGeometry => 9,
+            Cause::TooMany => 10,
+            Cause::BadPair => 12,
+            Cause::BadSwitch => 13,
         }
     }
 

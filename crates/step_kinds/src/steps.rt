@@ -1,6 +1,7 @@
 //! Posted writes by their labels, the steps of a script and their answers.
 
 ghost use Rattle.std.specs.Prelude.{◌≡◌};
+ghost use Rattle.step_kinds.specs.Answers.{is_made};
 ghost use Rattle.step_kinds.specs.Subject.{subject_of};
 
 use crate::frame::Frame;
@@ -396,4 +397,65 @@ pub enum Answer {
     To { port: u32 },
     /// The frame waits on all other ports of the switch, so many: its destination isn't known, or is a group.
     Flood { count: u32 },
+}
+
+impl Answer {
+    /// Whether a step that got this answer was made: any other answer refuses it.
+    #[inline]
+    pub fn is_made(&self) -> bool
+        ensures { result ≡ is_made self.now }
+    {
+        match self {
+            Answer::Ok
+            | Answer::OkSession { .. }
+            | Answer::OkNumber { .. }
+            | Answer::Offered { .. }
+            | Answer::Up
+            | Answer::Joined
+            | Answer::Posted { .. }
+            | Answer::Landed { .. }
+            | Answer::PeerDown
+            | Answer::ReadyFrame { .. }
+            | Answer::Copied { .. }
+            | Answer::Delivered { .. }
+            | Answer::Cleared { .. }
+            | Answer::Acked { .. }
+            | Answer::Awake
+            | Answer::Irq { .. }
+            | Answer::Mem { .. }
+            | Answer::PadValue { .. }
+            | Answer::QueueShown { .. }
+            | Answer::Short { .. }
+            | Answer::Filtered
+            | Answer::To { .. }
+            | Answer::Flood { .. } => true,
+            Answer::NotDown
+            | Answer::Dirty
+            | Answer::NotEnabled
+            | Answer::Spent
+            | Answer::NotUp
+            | Answer::NotClosing
+            | Answer::LinkDown
+            | Answer::Already
+            | Answer::NotYet
+            | Answer::Version { .. }
+            | Answer::Queues { .. }
+            | Answer::Windows { .. }
+            | Answer::Size { .. }
+            | Answer::NotChecked
+            | Answer::NotReady
+            | Answer::Closed
+            | Answer::TooLong { .. }
+            | Answer::Busy
+            | Answer::Stopped
+            | Answer::Again { .. }
+            | Answer::Idle
+            | Answer::Nothing
+            | Answer::Blocked
+            | Answer::OutOfTurn
+            | Answer::Empty
+            | Answer::VerDiffers { .. }
+            | Answer::Long { .. } => false,
+        }
+    }
 }

@@ -1,8 +1,9 @@
 -- One seat with all five parts, in which a lane ends, and what its proof shows.
-use Rattle.std.specs.Prelude.{◌≡◌, ℕ, Bool, List, [], ◌∷◌, take}
+use Rattle.std.specs.Prelude.{◌≡◌, ℕ, Bool, true, List, [], ◌∷◌, take}
 use Rattle.atomic_table.specs.Seated.{TableId}
 use Rattle.table_rule.specs.declared.parts.MovePart.{MovePart}
 use Rattle.table_rule.specs.declared.parts.LaneView.{LaneView}
+use Rattle.table_rule.specs.Words.{cut_word}
 use Rattle.table_rule.specs.Rule.{Sitter}
 use Rattle.table_rule.specs.Views.{no_parts, the_send, the_recv, the_cut, HasSend, HasMove, HasRecv, HasBack, HasCut}
 
@@ -26,6 +27,10 @@ pub record MovesNext (N n : ℕ) (part : MovePart) : Type 0 where
 pub record OthersStay (before after : LaneView) : Type 0 where
   pub send : the_send after ≡ the_send before
   pub cut : the_cut after ≡ the_cut before
+
+-- a cut that its sender has seen was made
+abbrev pub CutIsMade : LaneView → Type 0
+CutIsMade view = (the_send view).link ≡ cut_word → (the_cut view).cut ≡ true
 
 -- a seat goes on at its table with all parts, and the sender's and the cut's are as before
 pub record GoesOn (table_before table_after : TableId) (before after : Sitter) : Type 0 where

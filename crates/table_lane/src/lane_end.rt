@@ -1,11 +1,12 @@
 //! The end of a lane: its five ends become one, and what is left in the ring comes out.
-ghost use Rattle.std.specs.Prelude.{◌≡◌, ◌≤◌, ◌<◌, ◌+◌, ◌++◌, [], length, IfSome, MatchBool};
+ghost use Rattle.std.specs.Prelude.{◌≡◌, ◌≤◌, ◌<◌, ◌+◌, ◌++◌, true, [], length, IfSome, MatchBool};
 ghost use Rattle.table_rule.specs.Views.{joined, the_send, the_move, the_recv, the_cut};
+ghost use Rattle.table_rule.specs.Words.{cut_word};
 ghost use Rattle.table_rule.specs.ShownLane.{most_lane_frames};
 ghost use Rattle.table_lane.specs.Table.{IsTableOf};
 ghost use Rattle.table_lane.specs.NewEnds.{AreOfOneLane};
 ghost use Rattle.table_lane.specs.RecvAnswers.{IsReady};
-ghost use Rattle.table_lane.specs.EndOfLane.{HasAll, MovesNext, OthersStay, shown_by};
+ghost use Rattle.table_lane.specs.EndOfLane.{CutIsMade, HasAll, MovesNext, OthersStay, shown_by};
 
 use crate::back::{BackEnd, CutEnd};
 use crate::board::{Board, LaneSeat, Standing, header_of, position_of};
@@ -59,6 +60,7 @@ fn move_next(board: &Board, seat: &mut LaneSeat, entries: u64, number: u64) -> b
     ensures moved { MatchBool result
         ((number < length (the_send seat.old.me.0).sent) × (number < most_lane_frames) × MovesNext entries (number + 1) (the_move seat.new.me.0))
         ((length (the_send seat.old.me.0).sent ≤ number) × (length (the_send seat.old.me.0).sent + 1 ≤ length (the_recv seat.old.me.0).got + entries) × MovesNext entries number (the_move seat.new.me.0)) }
+    ensures seen { CutIsMade seat.old.me.0 }
 {
     let position = position_of(entries, number);
     if load_posted(board, seat, entries, position) != header_of(number) {
@@ -77,6 +79,7 @@ fn move_all(board: &Board, seat: &mut LaneSeat, entries: u64, from: u64)
     ensures parts { HasAll seat.new.me × OthersStay seat.old.me.0 seat.new.me.0 × (the_recv seat.new.me.0 ≡ the_recv seat.old.me.0) }
     ensures moved { length (the_send seat.old.me.0).sent ≤ (the_move seat.new.me.0).flagged }
     ensures room { length (the_send seat.old.me.0).sent + 1 ≤ length (the_recv seat.old.me.0).got + entries }
+    ensures seen { CutIsMade seat.old.me.0 }
 {
     let mut number = from;
     while move_next(board, seat, entries, number) {
@@ -124,7 +127,8 @@ fn join_all(
 
 /// Ends a lane: what the mover holds is moved, the seats become one, and what is left in the ring is moved and received
 /// with it. The ends are those of one [`make`](crate::make). What was sent is what was received before this call,
-/// followed by what is left. It takes no memory.
+/// followed by what is left. Where the sender's last load of the link word showed a cut, one was made. It takes no
+/// memory.
 pub fn finish(
     send: SendEnd,
     mut mover: MoveEnd,
@@ -135,6 +139,7 @@ pub fn finish(
     requires { AreOfOneLane send mover recv back cut }
     ensures left { send.part.sent ≡ recv.part.got ++ result.left.frames }
     ensures proof { result.proof ≡ record { sent = send.part.sent; got = recv.part.got; entries = send.part.entries; cut = cut.part.cut } }
+    ensures cut_seen { send.part.link ≡ cut_word → result.proof.cut ≡ true }
 {
     mover.settle();
     let next = mover.flagged;

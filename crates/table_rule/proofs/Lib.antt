@@ -2,6 +2,7 @@ pub mod BackSteps
 pub mod ClaimsAndLoads
 pub mod Facade
 pub mod Flights
+pub mod Headers
 pub mod LaneLaws
 pub mod LaneRuns
 pub mod Loads

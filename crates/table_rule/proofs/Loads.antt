@@ -1,15 +1,29 @@
 -- Loads that move no slot leave the moment's lane, and a cut stays.
-use Rattle.std.proofs.Common.{◌≡◌, ℕ, ◌+◌, ◌%◌, ◌^◌, ◌<◌, ◌≤◌, ◌∷◌, Bool, true, false, length, refl, ap, ◌∙◌, MatchBool, None, Some, nat_lt, ◌==◌}
-use Rattle.table_rule.specs.Loads.{LoadsAreNoSteps, CutStays}
+use Rattle.std.proofs.Common.{◌≡◌, ℕ, ◌+◌, ◌%◌, ◌^◌, ◌<◌, ◌≤◌, ◌∷◌, Bool, true, false, length, refl, sym, ap, ◌∙◌, arith, MatchBool, None, Some, nat_lt, ◌==◌, if◌then◌else◌}
+use Rattle.table_rule.specs.Loads.{LoadsAreNoSteps, SeenCutsAreMade, CutStays}
 use Rattle.table_rule.specs.Rule.{Sitter}
 use Rattle.table_rule.specs.LaneNames.{done}
-use Rattle.table_rule.specs.Words.{header_of}
+use Rattle.table_rule.specs.Words.{header_of, cut_word}
 use Rattle.table_rule.specs.Knowledge.{head, free_by, index_loaded, slot_claimed, taken, posted_loaded, frame_taken, flag_loaded, frame_found}
 use Rattle.table_rule.specs.Views.{Bytes, LaneView, the_cut, the_move, the_recv, the_send, with_move, with_recv, with_send}
 
+-- a link word that shows a cut is that of a cut
+cut_by_word : (cut : Bool) → (if cut then cut_word else 0) ≡ cut_word → cut ≡ true
+cut_by_word true is = refl
+cut_by_word false is = absurd (omega arith)
+
 -- A table shows the same lane after a load of link, index, posted header or flag that takes no slot.
 pub loads_are_no_steps : LoadsAreNoSteps
-loads_are_no_steps N m slots found h = record { link = h; index = h; posted = h; flag = h }
+loads_are_no_steps N m slots found h = record {
+  link = λ is. let seen : found ≡ cut_word → m.cut.cut ≡ true = λ cut. cut_by_word m.cut.cut (sym h.link ∙ sym is ∙ cut) in assumption seen;
+  index = h;
+  posted = h;
+  flag = h;
+}
+
+-- A sender whose last load of the link word showed a cut is at a table whose link was cut.
+pub seen_cuts_are_made : SeenCutsAreMade
+seen_cuts_are_made N m slots h seen = let made = h.seen_cut seen in (made, h.link ∙ ap (λ (cut : Bool). if cut then cut_word else 0) made)
 
 -- a seat whose view keeps its part of the cut
 keeps : (before after : LaneView) → after.cut ≡ before.cut → (the_cut before).cut ≡ true → (the_cut after).cut ≡ true

@@ -6,13 +6,13 @@ use mathlib.Core.Option.{none}
 use lib.ListN.{get_elem?}
 use Rattle.atomic_table.specs.Table.{Allows, keeps, takes}
 use Rattle.table_rule.specs.LaneNames.{done}
-use Rattle.table_rule.specs.Words.{posted_word, header_word, flag_word, header_of, spacing}
+use Rattle.table_rule.specs.Words.{posted_word, header_word, flag_word, header_of, cut_word, spacing}
 use Rattle.table_rule.specs.Views.{Bytes, MovePart, the_move, HasMove, with_move}
 use Rattle.table_rule.specs.ShownLane.{number_at}
 use Rattle.table_rule.specs.Moment.{Moment, ShowsLane}
 use Rattle.table_rule.specs.Rule.{Content, Sitter, ShowsALane}
 use Rattle.table_rule.specs.Knowledge.{taken, posted_loaded, frame_taken, header_stored, flag_stored}
-use Rattle.table_rule.specs.Plays.{KnowsSent, sees_posted, stores_header, stores_flag}
+use Rattle.table_rule.specs.Plays.{KnowsSent, SeenCutIsMade, sees_posted, stores_header, stores_flag}
 use Rattle.table_rule.proofs.LaneLaws.{number_is}
 use Rattle.table_rule.proofs.SeatChanges.{load_shows, load_keeps, store_shows, store_gives, mover_sits}
 use Rattle.table_rule.proofs.Seats.{part_too}
@@ -40,6 +40,10 @@ sees_posted_allowed N slots id me i is has board h counted at fits =
       (λ new. (moving.takes N m board.homes n refl (sym word ∙ new) seat.now.shows).0),
       part_too (λ v. v.recv) board.views id me.0 m.recv (λ r. length m.send.sent + 1 ≤ length r.got + part.entries) at seat.now.seats.recv room,
     ) in
+    let seen : IfSome me.0.send (SeenCutIsMade me.0.cut) =
+    part_too (λ v. v.send) board.views id me.0 m.send (SeenCutIsMade me.0.cut) at seat.now.seats.send (
+    part_too (λ v. v.cut) board.views id me.0 m.cut (λ c. m.send.link ≡ cut_word → c.cut ≡ true) at seat.now.seats.cut seat.now.shows.seen_cut)
+    in
     elim (cases_eq found (header_of n)) [
       | inl new ↦
           let take = moving.takes N m board.homes n refl (sym word ∙ new) seat.now.shows in
@@ -51,11 +55,11 @@ sees_posted_allowed N slots id me i is has board h counted at fits =
             takes (n % part.entries) (Some frame),
             ap (get_elem? board.homes) (sym at_place) ∙ take.1,
             load_shows after i seat seat.now.knows (subst (λ (k : ℕ). ShowsLane N (record m { mover = frame_taken part frame }) (set board.homes k none)) at_place take.2),
-            (let hit : eqb found (header_of n) ≡ true = eq-eqb found (header_of n) new in rw hit (frame, refl, omega arith, omega (arith, o.claimed, o.sent)), surely),
+            (let hit : eqb found (header_of n) ≡ true = eq-eqb found (header_of n) new in rw hit (frame, refl, omega arith, omega (arith, o.claimed, o.sent)), surely, seen),
           )
       | inr old ↦
           let after : MovePart = posted_loaded part found in
-          load_keeps (sees_posted me found) me.1 after i seat seat.now.knows seat.now.shows (let miss : eqb found (header_of n) ≡ false = ne_eqb found (header_of n) old in rw miss refl, surely)
+          load_keeps (sees_posted me found) me.1 after i seat seat.now.knows seat.now.shows (let miss : eqb found (header_of n) ≡ false = ne_eqb found (header_of n) old in rw miss refl, surely, seen)
     ]
 
 -- The rule of a table allows the mover to store the header of an entry that it holds, if it hasn't done so yet.

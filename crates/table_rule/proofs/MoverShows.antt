@@ -1,5 +1,5 @@
 -- The mover's steps: a slot goes to the mover, its header is stored, and it is home again with its flag.
-use Rattle.std.proofs.Common.{◌≡◌, ℕ, suc, ◌+◌, ◌-◌, ◌%◌, ◌^◌, ◌<◌, ◌≤◌, true, false, List, [], ◌∷◌, ◌++◌, length, map, drop, set, get_or, refl, sym, subst, ap, ◌∙◌, inl, inr, arith, mod-lt, mod-eq_of_lt, length-set, drop-cons, Some, nat_lt}
+use Rattle.std.proofs.Common.{◌≡◌, ℕ, suc, ◌+◌, ◌-◌, ◌%◌, ◌^◌, ◌<◌, ◌≤◌, Bool, true, false, List, [], ◌∷◌, ◌++◌, length, map, drop, set, get_or, refl, sym, subst, ap, ◌∙◌, inl, inr, arith, mod-lt, mod-eq_of_lt, length-set, drop-cons, Some, nat_lt}
 use native.Mathlib.Nat.{add-mod_right, add-mod_left, mod-mod}
 use Rattle.std.proofs.lemmas.Bool.{lt-ltb, le-ltb, cases_lt}
 use Rattle.std.proofs.lemmas.List.{length_push, get_or_push, get_or_append_left, length-map, length-drop, get_or-drop, map-set}
@@ -9,13 +9,14 @@ use Rattle.table_rule.specs.LaneNames.{Entry, entry_of_frame, GoesDown, Write, D
 use Rattle.table_rule.specs.Words.{header_of}
 use Rattle.table_rule.specs.Views.{Bytes}
 use Rattle.table_rule.specs.Borders.{Borders, out, full}
-use Rattle.table_rule.specs.ShownLane.{in_flight, PostedStand, RingStands, HeldStand}
+use Rattle.table_rule.specs.ShownLane.{in_flight, PostedStand, HeadersStand, RingStands, HeldStand}
 use Rattle.table_rule.specs.LaneNames.{Land, Runs}
 use Rattle.table_rule.specs.LaneSteps.{header_steps, flag_steps}
 use Rattle.table_rule.specs.Kinds.{Takes, StoresHeader, StoresFlag}
 use Rattle.table_rule.proofs.LaneLaws.{same_number}
 use Rattle.table_rule.proofs.LaneRuns.{runs_keep, fields_of, data_is_fields, with_fields, fields_keep_flags, fields_give_version, land_fields, land_flag_and_bell}
 use Rattle.table_rule.proofs.Flights.{in_flight-take, in_flight-store}
+use Rattle.table_rule.proofs.Headers.{headers_taken, header_stored, headers_flagged}
 use Rattle.table_rule.proofs.Slots.{slot_by, slot_is, moves_past, slot_changes}
 use Rattle.table_rule.proofs.Order.{in_order}
 use Rattle.table_rule.proofs.SenderShows.{borders_in, entry_is_frame}
@@ -72,6 +73,7 @@ takes N m slots n is shown h =
       h.places.at n low (omega arith) ∙ ap some (slot_is k m.send.sent n l0 l1 l2 (le-ltb n k.taken (omega arith)) l4 refl),
       assumption (
         h.parts.flight ∙ sym (in_flight-take m.mover.flagged m.mover.stored (drop m.mover.flagged m.lane.sent)),
+        headers_taken N m.words.headers m.mover.flagged m.mover.stored h.headers,
         holding,
         slot_changes N k after m.send.sent m.send.sent slots n out (omega (arith, o.two)) h.places refl low (omega arith)
             (λ j other. ap (λ b. slot_by (nat_lt j k.cleared) (nat_lt j k.looked) (nat_lt j k.flagged) b (nat_lt j k.sent) (nat_lt j k.claimed) (full m.send.sent j))
@@ -120,6 +122,8 @@ stores_header N m slots j n is held left h =
     h.parts.flight ∙ split.2 ∙ ap (λ (d : List Write). split.0 ++ (d ++ split.1)) (ap (data_of n) same_entry ∙ data_is_fields n entry) in
     let entries = h.of.entries in
     let positions : length lane.ring ≡ lane.entries = h.law.2.room.slots in
+    let words_long : length m.words.headers ≡ N =
+    sym (length-map m.words.headers (λ (header : ℕ). header % 2 ^ 32)) ∙ sym (ap length h.ring.versions) ∙ length-map lane.ring (λ (s : Slot). s.ver) ∙ positions ∙ entries in
     let two : 2 ≤ lane.entries = h.law.2.room.two_entries in
     let within : n % lane.entries < length lane.ring = let small : n % lane.entries < lane.entries = mod-lt n (omega arith) in omega arith in
     let slot : Slot = with_fields (slot_of lane n) n entry (fields_of entry) in
@@ -141,10 +145,12 @@ stores_header N m slots j n is held left h =
           given_back = h.parts.given_back;
         };
         posted = h.posted;
+        headers = header_stored N m.words.headers m.mover.flagged j n m.mover.stored is (omega arith) (omega (arith, o.taken, o.sent, o.claimed)) words_long h.headers;
         ring = subst (λ (at : ℕ). RingStands next.ring (set m.words.headers (n % at) (header_of n)) m.words.flags) entries
             (ring_stores_header lane.ring m.words.headers m.words.flags (n % lane.entries) slot (header_of n) version (fields_keep_flags (fields_of entry) (slot_of lane n) n entry) h.ring);
         index = h.index;
         link = h.link;
+        seen_cut = h.seen_cut;
         holding = record { frames = h.holding.frames; within = h.holding.within; marks = length-set m.mover.stored j true ∙ h.holding.marks };
         receiving = h.receiving;
         room = h.room;
@@ -195,10 +201,12 @@ stores_flag N m slots frame held stored has marked h =
           given_back = h.parts.given_back;
         };
         posted = h.posted;
+        headers = headers_flagged N m.words.headers n stored (subst (λ (marks : List Bool). HeadersStand N m.words.headers n marks) marked h.headers);
         ring = subst (λ (at : ℕ). RingStands next.ring m.words.headers (set m.words.flags (n % at) done)) entries
             (ring_stores_flag lane.ring m.words.headers m.words.flags (n % lane.entries) slot done refl (ap flags_of is_frame) h.ring);
         index = h.index;
         link = h.link;
+        seen_cut = h.seen_cut;
         holding = record {
           frames = λ j low_j.
               ap (λ fs. get_or fs (suc j) []) (sym has) ∙ h.holding.frames (suc j) (omega arith) ∙ ap (λ (i : ℕ). get_or m.send.sent i []) (let e : n + suc j ≡ n + 1 + j = omega arith in e);

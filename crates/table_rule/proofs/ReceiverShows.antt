@@ -1,19 +1,21 @@
 -- The receiver's steps: look at the next entry, copy it whole, clear its flags, acknowledge it. What a step leaves as
 -- it was is found by `assumption`, which lists only what is new.
-use Rattle.std.proofs.Common.{◌≡◌, ℕ, suc, ◌+◌, ◌%◌, ◌^◌, ◌<◌, ◌≤◌, false, List, [], ◌∷◌, ◌++◌, length, map, take, set, get_or, refl, sym, subst, ap, ◌∙◌, inl, inr, arith, length-append, append-nil, nat_lt, replicate}
+use Rattle.std.proofs.Common.{◌≡◌, ℕ, suc, ◌+◌, ◌%◌, ◌<◌, ◌≤◌, false, List, [], ◌∷◌, ◌++◌, length, take, set, get_or, refl, sym, subst, ap, ◌∙◌, inl, inr, arith, length-append, append-nil, nat_lt, replicate}
 use Rattle.std.proofs.lemmas.Bool.{lt-ltb, le-ltb, cases_lt}
 use Rattle.std.proofs.Math.ListN.{get_or-map}
 use Rattle.std.proofs.Math.Seq.{take-suc}
 use mathlib.Core.Option.{some}
-use Rattle.table_rule.specs.LaneNames.{Lane, Slot, blank_slot, slot_of, with_flags, done, PhaseCounts, Idle, Copying, Copied, Cleared, bytes_of, entry_of, flags_of, version_of, entry_of_frame, GoesDown, after_look, after_clear, after_ack}
+use Rattle.table_rule.specs.LaneNames.{Lane, Slot, blank_slot, slot_of, with_flags, done, PhaseCounts, Idle, Copying, Copied, Cleared, bytes_of, entry_of, flags_of, entry_of_frame, GoesDown, after_look, after_clear, after_ack}
+use Rattle.table_rule.specs.Words.{header_of}
 use Rattle.table_rule.specs.Views.{Bytes}
 use Rattle.table_rule.specs.Borders.{Borders, Slots, SlotsStand, empty, out, full, slot_at}
 use Rattle.table_rule.specs.ShownLane.{RingStands, IndexStands, hand_in}
 use Rattle.table_rule.specs.LaneNames.{Look, Copy, Clear, Acknowledge, Runs}
 use Rattle.table_rule.specs.Kinds.{Looks, Copies, Clears, Acknowledges}
 use Rattle.table_rule.specs.Moment.{Moment, ShowsLane}
-use Rattle.table_rule.proofs.LaneLaws.{chunks_in, look_sees, copy_sees, tail_after}
+use Rattle.table_rule.proofs.LaneLaws.{chunks_in, look_sees, tail_after}
 use Rattle.table_rule.proofs.LaneRuns.{runs_keep, copy_all}
+use Rattle.table_rule.proofs.Headers.{header_whole}
 use Rattle.table_rule.proofs.Slots.{slot_by, slot_is, moves_past, slot_changes}
 use Rattle.table_rule.proofs.Order.{in_order}
 use Rattle.table_rule.proofs.SenderShows.{borders_in, entry_is_frame}
@@ -92,16 +94,13 @@ looks N m slots n is idle raised h =
       ),
     )
 
--- the header word of the entry that is looked at has its version
-pub version_stands : (N : ℕ) (m : Moment) (slots : Slots) (n : ℕ) → n ≡ length m.recv.got → m.recv.phase ≡ Copying → ShowsLane N m slots → get_or m.words.headers (n % N) 0 % 2 ^ 32 ≡ version_of n
-version_stands N m slots n is copying h =
-    let at : m.lane.got ≡ n = h.parts.copied ∙ sym is in
-    let whole = (copy_sees m.lane (h.parts.stage ∙ copying) h.law).1 in
-    sym (get_or-map (λ (header : ℕ). header % 2 ^ 32) m.words.headers (n % N) 0)
-    ∙ ap (λ (k : ℕ). get_or (map (λ (header : ℕ). header % 2 ^ 32) m.words.headers) (n % k) 0) (sym h.of.entries)
-    ∙ ap (λ (vs : List ℕ). get_or vs (n % m.lane.entries) 0) (sym h.ring.versions)
-    ∙ get_or-map (λ (s : Slot). s.ver) m.lane.ring (n % m.lane.entries) blank_slot
-    ∙ ap (λ (j : ℕ). (slot_of m.lane j).ver) (sym at) ∙ whole.ver ∙ ap version_of at
+-- the header word of the entry that is looked at is its header
+pub header_is : (N : ℕ) (m : Moment) (slots : Slots) (n : ℕ) → n ≡ length m.recv.got → m.recv.phase ≡ Copying → ShowsLane N m slots → get_or m.words.headers (n % N) 0 ≡ header_of n
+header_is N m slots n is copying h =
+    let o = in_order N m slots h in
+    let one : length m.recv.hand ≡ 1 = h.receiving.in_hand ∙ ap hand_in copying in
+    let marks = h.holding.marks in
+    header_whole N m.words.headers m.mover.flagged m.mover.stored n (omega (arith, o.looked)) (omega (arith, o.freed, o.acked, o.cleared, o.taken, o.sent, o.claimed)) h.headers
 
 -- the frame in hand is received
 pub copies : Copies

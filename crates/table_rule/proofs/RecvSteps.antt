@@ -69,7 +69,7 @@ copies_frame_allowed N slots id me i is has copying board h counted at fits =
     let after : RecvPart = frame_copied part in
     let prefix : after.got ≡ take (length after.got) m.send.sent =
     sym (append-nil after.got) ∙ copy.3.receiving.prefix ∙ ap (λ (j : ℕ). take j m.send.sent) (let e : length after.got + 0 ≡ length after.got = omega arith in e) in
-    load_keeps (copies_frame me (get_or board.words i 0)) me.1 after i seat seat.now.knows copy.3 (refl, ap (λ (header : ℕ). header % 2 ^ 32) word ∙ receiving.version_stands N m board.homes n refl copying seat.now.shows, part_too (λ v. v.send) board.views id me.0 m.send (λ send. after.got ≡ take (length after.got) send.sent) at seat.now.seats.send prefix)
+    load_keeps (copies_frame me (get_or board.words i 0)) me.1 after i seat seat.now.knows copy.3 (refl, word ∙ receiving.header_is N m board.homes n refl copying seat.now.shows, part_too (λ v. v.send) board.views id me.0 m.send (λ send. after.got ≡ take (length after.got) send.sent) at seat.now.seats.send prefix)
 
 -- The rule of a table allows the receiver to clear the flag of a copied entry, whose slot then goes home empty.
 pub clears_flag_allowed : (N slots id : ℕ) (me : Sitter) (i n : ℕ) (k : ℕ) (others : List (ℕ × Content)) → i ≡ flag_word N n → n + 1 ≡ length (the_recv me.0).got → me.1 ≡ (k, None) ∷ others → k ≡ n % N

@@ -12,6 +12,7 @@ use Rattle.table_rule.specs.Moment.{Moment, ShowsLane}
 use Rattle.table_rule.specs.Rule.{Content, Sitter, ShowsALane}
 use Rattle.table_rule.specs.Knowledge.{link_loaded, index_loaded, head, free_by, slot_claimed, frame_sent}
 use Rattle.table_rule.specs.Plays.{frame_in, sees_link, sees_index, stores_posted}
+use Rattle.table_rule.proofs.Loads.{loads_are_no_steps}
 use Rattle.table_rule.proofs.SeatChanges.{load_shows, load_keeps, store_shows, store_gives, sender_sits}
 use Rattle.table_rule.proofs.Seats.{part_too}
 use Rattle.table_rule.proofs.WordLists.{index_at, link_at, set_posted}
@@ -28,7 +29,7 @@ sees_link_allowed N slots id me i is has board h counted at fits =
     let word : found ≡ m.words.link = (λ j. get_or (seat.now.words j) (is j) 0) ∙ link_at N m.words seat.now.sized seat.two in
     let surely : IfSome me.0.cut (λ (cut : CutPart). found ≡ (if cut.cut then cut_word else 0)) =
     part_too (λ v. v.cut) board.views id me.0 m.cut (λ (cut : CutPart). found ≡ (if cut.cut then cut_word else 0)) at seat.now.seats.cut (word ∙ seat.now.shows.link) in
-    load_keeps (sees_link me found) me.1 (link_loaded part found) i seat seat.now.knows seat.now.shows (refl, surely)
+    load_keeps (sees_link me found) me.1 (link_loaded part found) i seat seat.now.knows ((loads_are_no_steps N m board.homes found seat.now.shows).link word) (refl, surely)
 
 -- The rule of a table allows a sender without a slot to load the index word, and to take one where that shows room.
 pub sees_index_allowed : (N slots id : ℕ) (me : Sitter) (i : ℕ) → i ≡ index_word N → HasSend me.0 → (the_send me.0).claims ≡ false → Allows (ShowsALane N) slots id me i (λ n. n) (sees_index me)

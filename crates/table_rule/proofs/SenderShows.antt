@@ -56,7 +56,7 @@ claims N m slots free_hand free h =
     let l4 : nat_lt n k.sent ≡ false = le-ltb n k.sent (omega arith) in
     let next : Borders = record k { claimed = n + 1 } in (
       h.places.at n low (omega arith) ∙ ap some (slot_is k m.send.sent n l0 l1 l2 l3 l4 (le-ltb n k.claimed (omega arith))),
-      shows_still N m slots _ true m.back.index m.words.link m.cut.cut h h.index h.link (record { one_free = omega arith; counted = h.room.counted })
+      shows_still N m slots _ true m.back.index m.words.link m.cut.cut h h.index h.link h.seen_cut (record { one_free = omega arith; counted = h.room.counted })
           (slot_changes N k next m.send.sent m.send.sent slots n out (omega (arith, o.two)) h.places refl low (omega arith)
           (λ j other. ap (λ b. slot_by (nat_lt j k.cleared) (nat_lt j k.looked) (nat_lt j k.flagged) (nat_lt j k.taken) (nat_lt j k.sent) b (full m.send.sent j))
           (moves_past j n other ∙ ap (nat_lt j) (sym none_claimed)))
@@ -139,9 +139,11 @@ sends N m slots frame claimed fits counted sized h =
           given_back = h.parts.given_back;
         };
         posted = posts N m.words.posted n (length (m.send.sent ++ frame ∷ [])) (omega arith) more sized.posted h.posted;
+        headers = h.headers;
         ring = h.ring;
         index = h.index;
         link = h.link;
+        seen_cut = h.seen_cut;
         holding = record {
           frames = λ j below. h.holding.frames j below ∙ sym (get_or_append_left m.send.sent (frame ∷ []) [] (m.mover.flagged + j) (let e : m.mover.flagged + j < n = omega arith in e));
           within = omega arith;

@@ -15,6 +15,7 @@ use Rattle.table_rule.specs.Rule.{Content, Board, IsMoment, ShowsALane}
 use Rattle.table_rule.specs.Loads.{SplitsAreNoSteps, JoinsAreNoSteps}
 use Rattle.table_rule.proofs.LaneLaws.{new_holds}
 pub use Rattle.table_rule.proofs.WordLists.{first_lie}
+use Rattle.table_rule.proofs.Headers.{no_headers}
 use Rattle.table_rule.proofs.Seats.{GoesToOne, part_splits, part_joins}
 use Rattle.table_rule.proofs.Slots.{slot_is}
 
@@ -90,12 +91,14 @@ new_shows N payload two small long = record {
   of = record { entries = refl; largest = refl; up = refl; todo = refl; small = small };
   parts = record { entries = refl; whole = refl; flight = refl; copied = refl; stage = refl; given_back = refl };
   posted = record { newest = λ n below near. absurd (omega arith); never = λ position past below. get_or-replicate N position 0 0 below };
+  headers = no_headers N (replicate N 0) (λ position below. get_or-replicate N position 0 0 below);
   ring = record {
     versions = map-replicate (λ (s : Slot). s.ver) N (new_slot payload) ∙ sym (map-replicate (λ (header : ℕ). header % 2 ^ 32) N 0);
     raised = map-replicate (λ (s : Slot). s.flags) N (new_slot payload);
   };
   index = record { outward = refl; homeward = refl; position = mod-lt (0 + N - 1) (omega arith); last_load = inl refl };
   link = refl;
+  seen_cut = λ seen. absurd (omega arith);
   holding = record { frames = λ k below. absurd (omega arith); within = omega arith; marks = refl };
   receiving = record { prefix = refl; in_hand = refl };
   room = record { one_free = omega arith; counted = omega arith };

@@ -44,7 +44,7 @@ loads_index N m slots h =
       position = omega arith;
       last_load = shown N m.back.freed m.lane.acked m.words.index_out o.two o.freed (omega arith) h.index.outward;
     })
-    h.link h.room h.places
+    h.link h.seen_cut h.room h.places
 
 -- the slots of entries that are given back are the sender's
 gives_back : (N : ℕ) (k : Borders) (sent : List Bytes) (slots : Slots) (freed : ℕ) → k.freed ≤ freed → freed ≤ k.cleared → k.cleared ≤ k.looked → k.looked ≤ k.flagged → k.flagged ≤ k.taken → k.taken ≤ k.sent → k.sent ≤ k.claimed
@@ -85,9 +85,11 @@ stores_index N m slots new h =
         of = record { entries = h.of.entries; largest = h.of.largest; up = h.of.up; todo = h.of.todo; small = h.of.small };
         parts = record { entries = h.parts.entries; whole = h.parts.whole; flight = h.parts.flight; copied = h.parts.copied; stage = h.parts.stage; given_back = refl };
         posted = h.posted;
+        headers = h.headers;
         ring = h.ring;
         index = record { outward = h.index.outward; homeward = named; position = h.index.position; last_load = inl named };
         link = h.link;
+        seen_cut = h.seen_cut;
         holding = h.holding;
         receiving = h.receiving;
         room = record { one_free = omega arith; counted = h.room.counted };
@@ -97,4 +99,4 @@ stores_index N m slots new h =
 
 -- the link is cut
 pub cuts : Cuts
-cuts N m slots h = shows_still N m slots slots m.send.claims m.back.index cut_word true h h.index refl h.room h.places
+cuts N m slots h = shows_still N m slots slots m.send.claims m.back.index cut_word true h h.index refl (λ seen. refl) h.room h.places

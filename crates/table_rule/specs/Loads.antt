@@ -1,8 +1,9 @@
 -- Steps on a table that are no steps of its lane: loads that move no slot, and seats that are split and joined. And a
--- cut stays.
+-- cut stays, and is seen only where it was made.
 use Rattle.std.specs.Prelude.{◌≡◌, ◌≢◌, ℕ, true, [], ◌∷◌, ◌++◌, slice_set}
 use mathlib.Core.Option.{some}
 use lib.ListN.{get_elem?}
+use Rattle.table_rule.specs.Words.{cut_word}
 use Rattle.table_rule.specs.Borders.{Slots}
 use Rattle.table_rule.specs.Knowledge.{link_loaded, index_loaded, posted_loaded, flag_loaded}
 use Rattle.table_rule.specs.Moment.{Moment, ShowsLane}
@@ -10,16 +11,20 @@ use Rattle.table_rule.specs.Plays.{Tells, sees_link, sees_index, stores_posted, 
 use Rattle.table_rule.specs.Rule.{Board, IsMoment, Sitter}
 use Rattle.table_rule.specs.Views.{LaneView, PartKind, alone, joined, no_parts, the_cut, without}
 
--- the table shows the same lane after a load with which no slot goes to the seat: of the link word, the index word, a
--- posted header or a flag
+-- The table shows the same lane after a load with which no slot goes to the seat: of the link word, the index word, a
+-- posted header or a flag. Of the link word the sender keeps what stands there.
 pub record StillShown (N : ℕ) (m : Moment) (slots : Slots) (found : ℕ) : Type 0 where
-  pub link : ShowsLane N (record m { send = link_loaded m.send found }) slots
+  pub link : found ≡ m.words.link → ShowsLane N (record m { send = link_loaded m.send found }) slots
   pub index : ShowsLane N (record m { send = index_loaded m.send found }) slots
   pub posted : ShowsLane N (record m { mover = posted_loaded m.mover found }) slots
   pub flag : ShowsLane N (record m { recv = flag_loaded m.recv found }) slots
 
 abbrev pub LoadsAreNoSteps : Type 0
 LoadsAreNoSteps = (N : ℕ) (m : Moment) (slots : Slots) (found : ℕ) → ShowsLane N m slots → StillShown N m slots found
+
+-- the sender keeps a word that says cut only where the link word says so, and the link was cut
+abbrev pub SeenCutsAreMade : Type 0
+SeenCutsAreMade = (N : ℕ) (m : Moment) (slots : Slots) → ShowsLane N m slots → m.send.link ≡ cut_word → (m.cut.cut ≡ true) × (m.words.link ≡ cut_word)
 
 -- the moment, and its lane with it, is the same where a seat is split and where two are joined
 abbrev pub SplitsAreNoSteps : Type 0

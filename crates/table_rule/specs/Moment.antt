@@ -34,4 +34,4 @@ pub record EachKnows (N : ℕ) (s m r b c : ℕ) : Type 0 where
 -- the table shows the moment's lane
 abbrev pub ShowsLane : ℕ → Moment → Slots → Type 0
 ShowsLane N m slots =
-    Shows N m.words m.lane m.send.sent m.send.claims m.mover.flagged m.mover.held m.mover.stored m.recv.got m.recv.hand m.recv.phase m.back.freed m.back.index m.cut.cut slots
+    Shows N m.words m.lane m.send.sent m.send.claims m.mover.flagged m.mover.held m.mover.stored m.recv.got m.recv.hand m.recv.phase m.back.freed m.back.index m.send.link m.cut.cut slots

@@ -1,9 +1,9 @@
 -- What each atomic step tells: of the seat before, the number found, and the seat after.
-use Rattle.std.specs.Prelude.{◌≡◌, ℕ, ◌+◌, ◌-◌, ◌%◌, ◌^◌, ◌<◌, ◌≤◌, ◌==◌, nat_lt, List, [], ◌∷◌, length, take, Option, Some, None, IfSome, MatchBool, if◌then◌else◌}
+use Rattle.std.specs.Prelude.{◌≡◌, ℕ, ◌+◌, ◌-◌, ◌%◌, ◌<◌, ◌≤◌, ◌==◌, nat_lt, true, List, [], ◌∷◌, length, take, Option, Some, None, IfSome, MatchBool, if◌then◌else◌}
 use Rattle.atomic_table.specs.Table.{rest}
-use Rattle.table_rule.specs.LaneNames.{done, version_of}
+use Rattle.table_rule.specs.LaneNames.{done}
 use Rattle.table_rule.specs.Words.{header_of, cut_word, spacing}
-use Rattle.table_rule.specs.Views.{Bytes, SendPart, MovePart, RecvPart, the_send, the_move, the_recv, the_back, the_cut, with_send, with_move, with_recv, with_back, with_cut}
+use Rattle.table_rule.specs.Views.{Bytes, SendPart, MovePart, RecvPart, CutPart, the_send, the_move, the_recv, the_back, the_cut, with_send, with_move, with_recv, with_back, with_cut}
 use Rattle.table_rule.specs.ShownLane.{number_at, most_lane_frames}
 use Rattle.table_rule.specs.Rule.{Content, Sitter}
 use Rattle.table_rule.specs.Knowledge.{link_loaded, index_loaded, head, free_by, slot_claimed, frame_sent, taken, posted_loaded, frame_taken, header_stored, flag_stored, flag_loaded, frame_found, frame_copied, flag_cleared, acknowledged, index_out_loaded, index_stored, link_cut}
@@ -43,6 +43,10 @@ KnowsSent part found recv send =
     × (found ≡ header_of (taken part) → taken part < length send.sent)
     × IfSome recv (λ r. length send.sent + 1 ≤ length r.got + part.entries)
 
+-- and who has the cut's part besides, that a cut which the sender has seen was made
+abbrev pub SeenCutIsMade : Option CutPart → SendPart → Type 0
+SeenCutIsMade cut send = IfSome cut (λ c. send.link ≡ cut_word → c.cut ≡ true)
+
 -- where the posted header is that of the next entry, its slot goes to the mover
 abbrev pub sees_posted : Tells
 sees_posted before found after =
@@ -52,7 +56,7 @@ sees_posted before found after =
     × (after ≡ (with_move before.0 (frame_taken (posted_loaded part found) frame), (taken part % part.entries, Some frame) ∷ before.1))
     × (taken part < most_lane_frames) × (length part.held + 2 ≤ part.entries))
     (after ≡ (with_move before.0 (posted_loaded part found), before.1))
-    × IfSome before.0.send (KnowsSent part found before.0.recv)
+    × IfSome before.0.send (KnowsSent part found before.0.recv) × IfSome before.0.send (SeenCutIsMade before.0.cut)
 
 -- the word tells whose header it is
 abbrev pub stores_header : ℕ → Tells
@@ -77,11 +81,11 @@ sees_flag before found after =
     × IfSome before.0.mover (λ mover. length part.got < mover.flagged → found ≡ done)
     × IfSome before.0.send (λ send. part.got ≡ take (length part.got) send.sent)
 
--- the header has the entry's version; who has the sender's part too knows the same of what is then received
+-- the word is the entry's header; who has the sender's part too knows the same of what is then received
 abbrev pub copies_frame : Tells
 copies_frame before found after =
     let part = frame_copied (the_recv before.0) in
-    (after ≡ (with_recv before.0 part, before.1)) × (found % 2 ^ 32 ≡ version_of (length (the_recv before.0).got))
+    (after ≡ (with_recv before.0 part, before.1)) × (found ≡ header_of (length (the_recv before.0).got))
     × IfSome before.0.send (λ send. part.got ≡ take (length part.got) send.sent)
 
 abbrev pub clears_flag : Tells

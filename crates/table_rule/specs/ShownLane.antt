@@ -1,5 +1,5 @@
 -- The lane that a table shows: words, slots and parts on one side, a lane of the model on the other.
-use Rattle.std.specs.Prelude.{◌≡◌, ℕ, suc, ◌+◌, ◌-◌, ◌%◌, ◌^◌, ◌<◌, ◌≤◌, Bool, true, false, List, [], ◌∷◌, ◌++◌, length, map, take, drop, slice_index, slice_index_or, if◌then◌else◌, ◌⊎◌}
+use Rattle.std.specs.Prelude.{◌≡◌, ℕ, suc, ◌+◌, ◌-◌, ◌%◌, ◌^◌, ◌<◌, ◌≤◌, Bool, true, false, List, [], ◌∷◌, ◌++◌, length, map, take, drop, slice_index, slice_index_or, if◌then◌else◌, nat_lt, ◌⊎◌}
 use Rattle.step_kinds.specs.Limits.{most_frame_bytes, most_traffic_entries}
 use Rattle.table_rule.specs.LaneNames.{tail_of, Entry, entry_of_frame, Write, Flag, Bell, data_of, Slot, Lane, HoldsRingLaw, Phase, Idle, Copying, Copied, Cleared}
 use Rattle.table_rule.specs.Words.{Words, header_of, cut_word}
@@ -34,7 +34,16 @@ pub record PostedStand (N : ℕ) (posted : List ℕ) (sent : ℕ) : Type 0 where
   pub newest : (n : ℕ) → n < sent → sent ≤ n + N → slice_index posted (n % N) ≡ header_of n
   pub never : (position : ℕ) → sent ≤ position → position < N → slice_index posted position ≡ 0
 
--- headers and flags are those of the lane's ring; its payloads are in the slots
+-- whether the header of an entry is stored: its flag is stored, or the mover holds it with that mark
+abbrev pub header_stands : ℕ → List Bool → ℕ → Bool
+header_stands flagged stored n = if nat_lt n flagged then true else slice_index_or stored (n - flagged) false
+
+-- headers: of the newest stored entry at each position
+pub record HeadersStand (N : ℕ) (headers : List ℕ) (flagged : ℕ) (stored : List Bool) : Type 0 where
+  pub newest : (n : ℕ) → header_stands flagged stored n ≡ true → header_stands flagged stored (n + N) ≡ false → slice_index headers (n % N) ≡ header_of n
+  pub never : (position : ℕ) → position < N → header_stands flagged stored position ≡ false → slice_index headers position ≡ 0
+
+-- the ring of the lane has the low 32 bits of the headers for versions, and the flags; its payloads are in the slots
 pub record RingStands (ring : List Slot) (headers flags : List ℕ) : Type 0 where
   pub versions : map (λ slot. slot.ver) ring ≡ map (λ header. header % 2 ^ 32) headers
   pub raised : map (λ slot. slot.flags) ring ≡ flags
@@ -88,14 +97,17 @@ borders_of freed cleared looked flagged taken sent claims =
 
 -- All of it. The law of the ring holds of the lane.
 pub record Shows (N : ℕ) (words : Words) (lane : Lane) (sent : List Bytes) (claims : Bool) (flagged : ℕ) (held : List Bytes) (stored : List Bool)
-    (got hand : List Bytes) (phase : Phase) (freed loaded : ℕ) (cut : Bool) (slots : Slots) : Type 0 where
+    (got hand : List Bytes) (phase : Phase) (freed loaded seen : ℕ) (cut : Bool) (slots : Slots) : Type 0 where
   pub law : HoldsRingLaw lane
   pub of : IsLaneOf N lane
   pub parts : PartsSay lane sent flagged stored (length got) phase freed
   pub posted : PostedStand N words.posted (length sent)
+  pub headers : HeadersStand N words.headers flagged stored
   pub ring : RingStands lane.ring words.headers words.flags
   pub index : IndexStands N words.index_out words.index lane.acked freed loaded
   pub link : words.link ≡ (if cut then cut_word else 0)
+  -- the sender has seen a cut only where one was made
+  pub seen_cut : seen ≡ cut_word → cut ≡ true
   pub holding : HeldStand sent flagged held stored
   pub receiving : GotStands sent got hand phase
   pub room : RoomStands N (length sent) claims freed

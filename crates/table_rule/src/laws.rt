@@ -2,7 +2,7 @@
 
 ghost use Rattle.table_rule.specs.Owners.{OwnersHaveSlots};
 ghost use Rattle.table_rule.specs.Seated.{SeatsHaveSlotsOut, SlotsOutAreWithSeats};
-ghost use Rattle.table_rule.specs.Loads.{CutStays, JoinsAreNoSteps, LoadsAreNoSteps, SplitsAreNoSteps};
+ghost use Rattle.table_rule.specs.Loads.{CutStays, JoinsAreNoSteps, LoadsAreNoSteps, SeenCutsAreMade, SplitsAreNoSteps};
 ghost use Rattle.table_rule.specs.Kinds.{Claims, Sends, Takes, StoresHeader, StoresFlag, Looks, Copies, Clears, Acknowledges, LoadsIndex, StoresIndex, Cuts};
 
 /// Each slot has one owner, that of its entry in the lane that the table shows, and is where that owner has it.
@@ -66,7 +66,8 @@ pub fn slots_out_are_with_seats()
 {}
 
 /// A load with which no slot goes to a seat is no step of the lane, and neither is a split of a seat or a join of two.
-/// Such a load is of the link word, the index word, a posted header or a flag.
+/// Such a load is of the link word, the index word, a posted header or a flag. What the sender keeps of its load of the
+/// link word is the word that stands there.
 #[tactic(auto, using(crate::proofs::Loads::loads_are_no_steps))]
 pub fn others_are_no_steps()
     ensures loads { LoadsAreNoSteps }
@@ -78,4 +79,11 @@ pub fn others_are_no_steps()
 #[tactic(auto, using(crate::proofs::Loads::cut_stays))]
 pub fn a_cut_stays()
     ensures { CutStays }
+{}
+
+/// A sender whose last load of the link word showed a cut is at a table whose link was cut, and whose link word says
+/// so.
+#[tactic(auto, using(crate::proofs::Loads::seen_cuts_are_made))]
+pub fn seen_cuts_are_made()
+    ensures { SeenCutsAreMade }
 {}

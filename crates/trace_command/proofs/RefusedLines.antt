@@ -8,7 +8,7 @@ use Rattle.step_kinds.specs.declared.steps.Answer.{Answer}
 use Rattle.step_kinds.specs.declared.steps.Answer.TheVariants.{Ok as Done, OkSession, Offered, Posted, Blocked, Landed, Acked}
 use Rattle.step_kinds.specs.declared.steps.Step.{Step}
 use Rattle.step_kinds.specs.declared.steps.Step.TheVariants.{Train, Break, DropDone, Offer, Ready, Post, Land, Ack, Spad, Poke}
-use Rattle.ledger_laws.specs.Laws.{is_made}
+use Rattle.step_kinds.specs.Answers.{is_made}
 use Rattle.plan_model.specs.Plans.{no_pair}
 use Rattle.report_text.specs.Report.{AnsweredStep}
 use Rattle.trace_text.specs.Lines.{step_line}

@@ -9,7 +9,7 @@ use Rattle.step_kinds.specs.declared.plan.Plan.{Plan}
 use Rattle.step_kinds.specs.declared.steps.Step.{Step}
 use Rattle.step_kinds.specs.declared.steps.Step.TheVariants.{Xbegin}
 use Rattle.report_text.specs.Report.{AnsweredStep, line_of}
-use Rattle.trace_text.specs.Lines.{change_members, step_line, step_lines}
+use Rattle.trace_text.specs.Lines.{change_members, made_member, step_line, step_lines}
 use Rattle.trace_text.specs.Steps.{answer_object, step_members, step_name}
 use Rattle.trace_text.specs.Words.{named_object}
 use Rattle.trace_text.specs.Writes.{PairWrites, change_in, pair_in, writes_after}
@@ -25,7 +25,7 @@ line_same plan steps writes step made =
     (λ (members : List ℕ).
     line_of
     (codes "{\"line\":" ++ decimal made.line ++ codes ",\"step\":" ++ named_object (step_name step) members ++ codes ",\"answer\":" ++ answer_object made.answer
-    ++ change_members (pair_in writes (subject_of step)) (change_in plan.pairs step made.answer) ++ codes "}"))
+    ++ made_member made.answer ++ change_members (pair_in writes (subject_of step)) (change_in plan.pairs step made.answer) ++ codes "}"))
     (members_same plan steps step)
 
 -- The lines of a trace are the same for a plan with any other list of steps.

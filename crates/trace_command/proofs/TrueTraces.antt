@@ -41,7 +41,7 @@ have_answers plan =
 
 true_trace : (read : Result Plan ScriptFault) → (traced read).status ≡ 0 → (plan : Plan) × (read ≡ Ok plan) × HasTrueTrace plan
 true_trace (Ok plan) zero =
-    (plan, refl, λ pair side among ordinary. traces_are_true plan (memory_of plan) (answered_steps plan.steps (log_of_plan plan)) pair side (have_answers plan) among ordinary)
+    (plan, refl, λ pair side among. traces_are_true plan (memory_of plan) (answered_steps plan.steps (log_of_plan plan)) pair side (have_answers plan) among)
 true_trace (Err fault) zero = absurd (omega arith)
 
 -- What `trace` answers to a script is true: if it is done, the script declares a plan whose trace is true.

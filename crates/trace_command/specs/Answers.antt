@@ -3,7 +3,6 @@ use Rattle.std.specs.Prelude.{◌≡◌, ℕ, ◌<◌, Result, Ok, Err, List, le
 use Rattle.command_reply.specs.Output.{Output, done, refused}
 use Rattle.command_reply.specs.Statuses.{number_of}
 use Rattle.command_reply.specs.declared.status.Status.TheVariants.{Done}
-use Rattle.ledger_laws.specs.Laws.{IsOrdinaryPair}
 use Rattle.memory_model.specs.Memory.{memory_of}
 use Rattle.replay_command.specs.Replays.{answered_steps, log_of_plan}
 use Rattle.script_text.specs.Script.{script_of}
@@ -18,9 +17,9 @@ abbrev pub traced : Result Plan ScriptFault → Output
 traced (Ok plan) = done (trace_text plan)
 traced (Err fault) = refused fault
 
--- the lines of a plan's trace are true of each side of each pair that isn't raw
+-- the lines of a plan's trace are true of each side of each pair
 abbrev pub HasTrueTrace : Plan → Type 0
-HasTrueTrace plan = (pair : ℕ) (side : Side) → pair < length plan.pairs → IsOrdinaryPair plan pair →
+HasTrueTrace plan = (pair : ℕ) (side : Side) → pair < length plan.pairs →
     IsTrueTrace plan (memory_of plan) (answered_steps plan.steps (log_of_plan plan)) pair side
 
 -- the answer of `trace` to the bytes of a script

@@ -19,12 +19,12 @@ use Rattle.posted_queue.proofs.Facade.{may_land-map}
 use Rattle.plan_model.specs.Orders.{class_of, classes_of, kind_of, order_of}
 use Rattle.plan_model.specs.Plans.{pair_plan}
 use Rattle.ledger_model.specs.Log.{ledger_of, log_of}
-use Rattle.ledger_laws.specs.Flights.{in_flight}
-use Rattle.ledger_laws.proofs.Facade.{answer_of, in_flight_is_posted}
+use Rattle.ledger_laws.proofs.Facade.{answer_of}
 use Rattle.trace_text.specs.Writes.{last_of_class, no_write, number_at, write_at}
 use Rattle.trace_text.specs.declared.writes.FlyingWrite.{FlyingWrite}
-use Rattle.trace_laws.specs.Laws.{BlockedLandingsWait, side_writes}
+use Rattle.trace_laws.specs.Laws.{BlockedLandingsWait, flying_labels, side_writes}
 use Rattle.trace_laws.proofs.AnswersFit.{IsBlocked, blocked_there}
+use Rattle.trace_laws.proofs.FlyingLabels.{flight_is}
 use Rattle.trace_laws.proofs.LogsInStep.{all_after, run_in_step}
 use Rattle.trace_laws.proofs.NumbersInStep.{SideInStep}
 
@@ -145,7 +145,7 @@ module _ (plan : PairPlan) (side : Side) (flight : List Label) (place : ℕ) (bl
 
 -- a blocked landing names an earlier write that the one at its place may not pass
 pub blocked_landings_wait : BlockedLandingsWait
-blocked_landings_wait plan memories steps pair side place no_raw goes = record {
+blocked_landings_wait plan memories steps pair side place goes = record {
   earlier = last.earlier;
   before = last.before;
   named = last.named ∙ ap (λ class. last_of_class class (take place writes)) (sym (class_there classes writes flight place blocked.label run.classes_there blocked.at));
@@ -164,14 +164,14 @@ blocked_landings_wait plan memories steps pair side place no_raw goes = record {
     writes = (side_writes plan (log_of plan memories steps) pair side).flight
 
     flight : List Label
-    flight = in_flight plan (log_of plan memories steps) pair side
+    flight = flying_labels plan (log_of plan memories steps) pair side
 
     run : SideInStep classes (side_writes plan (log_of plan memories steps) pair side) flight (all_after plan pair side (log_of plan memories steps)).flight
     run = (run_in_step plan pair side memories steps).in_step.own
 
     blocked : IsBlocked own side flight place
     blocked =
-        subst (λ labels. IsBlocked own side labels place) (in_flight_is_posted plan memories steps pair side no_raw)
+        subst (λ labels. IsBlocked own side labels place) (flight_is plan pair side memories steps)
         (blocked_there own (ledger_of plan memories steps pair) side place (sym (answer_of plan memories steps (Land pair side place) Blocked goes)))
 
     last : LastOf classes (class_of classes blocked.label) writes flight place

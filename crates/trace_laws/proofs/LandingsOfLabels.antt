@@ -6,11 +6,10 @@ use Rattle.step_kinds.specs.declared.steps.Answer.TheVariants.{Landed}
 use Rattle.step_kinds.specs.declared.steps.Label.{Label}
 use Rattle.step_kinds.specs.declared.steps.Step.TheVariants.{Land}
 use Rattle.ledger_model.specs.Log.{log_of}
-use Rattle.ledger_laws.specs.Flights.{in_flight}
 use Rattle.ledger_laws.proofs.Facade.{answer_of, same_side-refl}
 use Rattle.trace_text.specs.Writes.{number_at}
 use Rattle.trace_text.specs.declared.writes.FlyingWrite.{FlyingWrite}
-use Rattle.trace_laws.specs.Laws.{LandingsAreOfTheirLabels, side_writes}
+use Rattle.trace_laws.specs.Laws.{LandingsAreOfTheirLabels, flying_labels, side_writes}
 use Rattle.trace_laws.proofs.AnswersFit.{LandsThere}
 use Rattle.trace_laws.proofs.LogsInStep.{all_after, next_lands, run_in_step}
 
@@ -29,12 +28,12 @@ label_at labels (w ∷ writes) (x ∷ flight) (suc place) label e at =
 
 -- the number of a landing is the place of its label among those posted
 pub landings_are_of_their_labels : LandingsAreOfTheirLabels
-landings_are_of_their_labels plan memories steps pair side place label no_raw goes =
+landings_are_of_their_labels plan memories steps pair side place label goes =
     label_at (all_after plan pair side (log_of plan memories steps)).flight (side_writes plan (log_of plan memories steps) pair side).flight
-    (in_flight plan (log_of plan memories steps) pair side) place label (run_in_step plan pair side memories steps).in_step.own.numbers at
+    (flying_labels plan (log_of plan memories steps) pair side) place label (run_in_step plan pair side memories steps).in_step.own.numbers at
   where
-    at : slice_get (in_flight plan (log_of plan memories steps) pair side) place ≡ Some label
+    at : slice_get (flying_labels plan (log_of plan memories steps) pair side) place ≡ Some label
     at =
-        subst (λ answer. LandsThere pair side (in_flight plan (log_of plan memories steps) pair side) (record { step = Land pair side place; answer = answer }))
+        subst (λ answer. LandsThere pair side (flying_labels plan (log_of plan memories steps) pair side) (record { step = Land pair side place; answer = answer }))
         (sym (answer_of plan memories steps (Land pair side place) (Landed label) goes))
-        (next_lands plan pair side memories no_raw steps (Land pair side place)) (eq-eqb pair pair refl) (same_side-refl side)
+        (next_lands plan pair side memories steps (Land pair side place)) (eq-eqb pair pair refl) (same_side-refl side)

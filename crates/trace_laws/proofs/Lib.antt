@@ -1,6 +1,7 @@
 pub mod AnswersFit
 pub mod BlockedWait
 pub mod Facade
+pub mod FlyingLabels
 pub mod LandingsOfLabels
 pub mod LinesAreTrue
 pub mod LogsInStep

@@ -78,24 +78,24 @@ module _ (plan : Plan) (memories : Memories) where
       subst (P (bridges_after plan memories before)) (ap (λ (now : PairWrites). at_side now.sides side) (sym (traces_follow_the_log plan memories before pair answers within)))
       (subst (λ log. P log (side_writes plan log pair side)) (sym (bridges_have_a_log plan memories (steps_of before))) so)
 
--- the lines of a trace are true of each ordinary pair of its plan
+-- the lines of a trace are true of each pair of its plan
 pub traces_are_true : TracesAreTrue
-traces_are_true plan memories lines pair side answers within no_raw = record {
+traces_are_true plan memories lines pair side answers within = record {
   landings = λ before behind line place label parts is_land is_answer.
       traced before (line ∷ behind) parts
       (λ log now. slice_get (posted_labels plan log pair side) (number_at now.flight place) ≡ Some label)
-      (landings_are_of_their_labels plan memories (bridged plan memories before) pair side place label no_raw
+      (landings_are_of_their_labels plan memories (bridged plan memories before) pair side place label
       (landing_goes_on plan memories before behind line pair side place (Landed label) (of_parts (before ++ line ∷ behind) parts) is_land is_answer));
   once = λ before behind n parts.
       traced before behind parts
       (λ log now.
       how_often n (landed_numbers plan log pair side ++ (dropped_numbers plan log pair side ++ numbers_in now.flight))
       ≡ (if nat_lt n (length (posted_labels plan log pair side)) then 1 else 0))
-      (each_number_stands_once plan memories (bridged plan memories before) pair side n no_raw);
+      (each_number_stands_once plan memories (bridged plan memories before) pair side n);
   waits = λ before behind line place parts is_land is_answer.
       traced before (line ∷ behind) parts
       (λ log now. IsStoppedBy plan log pair side place (stopped_by now.flight place))
-      (blocked_landings_wait plan memories (bridged plan memories before) pair side place no_raw
+      (blocked_landings_wait plan memories (bridged plan memories before) pair side place
       (landing_goes_on plan memories before behind line pair side place Blocked (of_parts (before ++ line ∷ behind) parts) is_land is_answer));
 }
   where

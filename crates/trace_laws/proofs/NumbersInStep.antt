@@ -1,9 +1,11 @@
 -- The writes of a side go in step with what it has in flight: the number of each is the place of its label among those
 -- posted.
-use Rattle.std.proofs.Common.{◌≡◌, ℕ, zero, suc, Option, Some, List, [], ◌∷◌, ◌++◌, length, map, refl, sym, ap, ◌∙◌, arith, length-append}
-use Rattle.std.specs.Prelude.{drop, remove, slice_get, take}
-use Rattle.std.specs.List.{drop-map, take-map}
-use Rattle.std.proofs.lemmas.List.{map-append}
+use Rattle.std.proofs.Common.{◌≡◌, ℕ, zero, suc, Bool, true, false, cond, Option, Some, List, [], ◌∷◌, ◌++◌, length, map, refl, sym, ap, ◌∙◌, subst, append_assoc, arith, length-append}
+use Rattle.std.specs.Prelude.{drop, filter, if◌then◌else◌, remove, slice_get, take}
+use Rattle.std.specs.List.{drop-map, fold, take-map}
+use Rattle.std.proofs.lemmas.List.{append-nil, map-append}
+use Rattle.std.proofs.lemmas.List.Elements.{filter-append}
+use Rattle.std.proofs.lemmas.List.Sums.{fold-append}
 use Rattle.step_kinds.specs.declared.steps.Label.{Label}
 use Rattle.posted_queue.proofs.Facade.{slice_get-append_far}
 use Rattle.plan_model.specs.Orders.{class_of}
@@ -11,6 +13,24 @@ use Rattle.trace_text.specs.Writes.{SideWrites, with_dropped, with_landed, with_
 use Rattle.trace_text.specs.declared.writes.FlyingWrite.{FlyingWrite}
 
 -- Lists
+
+-- What holds of the empty list, and of a list with one more where it holds of the list, holds of each.
+pub each_longer : {X : Type 0} (P : List X → Type 0) → P [] → ((xs : List X) (x : X) → P xs → P (xs ++ x ∷ [])) → (xs : List X) → P xs
+each_longer {X = X} P first next xs = go [] xs first
+  where
+    go : (done rest : List X) → P done → P (done ++ rest)
+    go done [] now = subst P (sym (append-nil done)) now
+    go done (x ∷ rest) now = subst P (append_assoc done (x ∷ []) rest) (go (done ++ x ∷ []) rest (next done x now))
+
+-- What is folded over the elements that are kept, with one element more, which may be kept too.
+pub fold_filter-last : {X Y : Type 0} (f : Y → X → Y) (start : Y) (keeps : X → Bool) (xs : List X) (x : X)
+    → fold f start (filter keeps (xs ++ x ∷ [])) ≡ (if keeps x then f (fold f start (filter keeps xs)) x else fold f start (filter keeps xs))
+fold_filter-last {Y = Y} f start keeps xs x =
+    ap (fold f start) (filter-append keeps xs (x ∷ [])) ∙ fold-append f start (filter keeps xs) (filter keeps (x ∷ [])) ∙ go (keeps x) (fold f start (filter keeps xs))
+  where
+    go : (b : Bool) (now : Y) → fold f now (cond b (x ∷ []) []) ≡ (if b then f now x else now)
+    go true now = refl
+    go false now = refl
 
 -- what is found in one list is found in a longer one
 found_more : {X Y : Type 0} (f g : X → Option Y) (xs : List X) (ys : List Y) → map f xs ≡ map Some ys → ((x : X) (y : Y) → f x ≡ Some y → g x ≡ Some y) → map g xs ≡ map Some ys

@@ -1,7 +1,7 @@
 -- Each item of a log keeps the writes of a side in step with what it has in flight.
-use Rattle.std.proofs.Common.{◌≡◌, ℕ, ◌+◌, ◌==◌, ◌&&◌, Bool, true, false, not, List, [], length, refl, sym, ap, subst}
+use Rattle.std.proofs.Common.{◌≡◌, ℕ, ◌+◌, ◌==◌, ◌&&◌, ◌||◌, Bool, true, false, not, List, [], length, refl, sym, ap, subst}
 use Rattle.std.specs.Prelude.{if◌then◌else◌, remove, slice_index_or}
-use Rattle.std.proofs.lemmas.Bool.{false≢true}
+use Rattle.std.proofs.lemmas.Bool.{eqb-true, false≢true}
 use Rattle.step_kinds.specs.Sides.{same_side}
 use Rattle.step_kinds.specs.Bits.{with_bit}
 use Rattle.step_kinds.specs.declared.names.Side.{Side}
@@ -21,9 +21,10 @@ use Rattle.plan_model.specs.Plans.{pair_plan, side_plan}
 use Rattle.ledger_model.specs.Log.{Answered}
 use Rattle.ledger_laws.specs.Flights.{Outbox, goes_out, outbox_next}
 use Rattle.ledger_laws.proofs.Facade.{is_pad, offer-is_pad}
-use Rattle.trace_text.specs.Writes.{PairWrites, SideWrites, class_on, pair_after}
-use Rattle.trace_text.specs.declared.changes.Change.TheVariants.{Trains, Breaks, Drops, Posts, Lands, Waits, Nothing}
-use Rattle.trace_laws.specs.Laws.{takes_out, with_item}
+use Rattle.trace_text.specs.Writes.{PairWrites, SideWrites, class_on, goes_through, pair_after, queue_posts}
+use Rattle.trace_text.specs.declared.changes.Change.TheVariants.{Trains, Breaks, Drops, Posts, Loses, Lands, Waits, Nothing}
+use Rattle.trace_laws.specs.Laws.{is_lost, takes_out, with_item}
+use Rattle.trace_laws.proofs.FlyingLabels.{flying_next}
 use Rattle.trace_laws.proofs.NumbersInStep.{SideInStep, dropped_in_step, landed_in_step, posted_in_step}
 
 -- what the ledger makes sure of in an item of a log: a drop comes while the link isn't up, and a write of a queue has
@@ -113,6 +114,17 @@ module _ (plan : PairPlan) (session : ℕ) (sides : Both SideWrites) where
   posted true B A class label false offered ready offered_then ready_then flight labels is own = record { same = refl; link = refl; own = own }
   posted false s side class label up offered ready offered_then ready_then flight labels is own = record { same = refl; link = refl; own = own }
 
+  -- a write of a queue, which is lost where it doesn't go through
+  through : (b g : Bool) (s side : Side) (class : ℕ) (label : Label) (now : Outbox) (labels : List Label)
+      → class_of (classes_of plan s) label ≡ class → Held side now labels
+      → InStep plan side (pair_after (With now.up) (if b then (if g then Posts s class else Loses) else Nothing))
+      (if not (not g) then (if b && same_side s side then goes_out now label else now) else now)
+      (if not (not g || false) then (if b && same_side s side then goes_out (record now { flight = labels }) label else record now { flight = labels }) else record now { flight = labels })
+  through true true s side class label now labels is own = posted true s side class label now.up now.offered now.ready now.offered now.ready now.flight labels is own
+  through false true s side class label now labels is own = record { same = refl; link = refl; own = own }
+  through true false s side class label now labels is own = record { same = refl; link = refl; own = own }
+  through false false s side class label now labels is own = record { same = refl; link = refl; own = own }
+
   landed : (b : Bool) (s side : Side) (place : ℕ) (now : Outbox) (labels : List Label) → Held side now labels
       → InStep plan side (pair_after (With now.up) (if b then Lands s place else Nothing)) (if b && same_side s side then record now { flight = remove now.flight place } else now)
       (record now { flight = labels })
@@ -135,16 +147,36 @@ module _ (plan : Plan) (pair : ℕ) (side : Side) where
 
   -- the outbox that neither landings nor drops change
   abbrev pub all_next : Outbox → Answered → Outbox
-  all_next all made = if not (takes_out made) then outbox_next plan pair side all made else all
+  all_next all made = if not (is_lost plan made || takes_out made) then outbox_next plan pair side all made else all
 
   abbrev After : PairWrites → Outbox → List Label → Step → Answer → Type 0
   After writes now labels step answer =
-      InStep Own side (with_item plan pair writes (record { step = step; answer = answer })) (outbox_next plan pair side now (record { step = step; answer = answer }))
+      InStep Own side (with_item plan pair writes (record { step = step; answer = answer })) (flying_next plan pair side now (record { step = step; answer = answer }))
       (all_next (record now { flight = labels }) (record { step = step; answer = answer }))
 
   module _ (session : ℕ) (sides : Both SideWrites) (now : Outbox) (labels : List Label) (own : SideInStep (classes_of Own side) (at_side sides side) now.flight labels) where
     abbrev Writes : PairWrites
     Writes = record { up = now.up; session = session; sides = sides }
+
+    -- a write of a queue: where it is on this pair, it goes through by this pair's plan
+    queue_posted : (p : ℕ) (s : Side) (queue : ℕ) (label : Label) → class_of (classes_of Own s) label ≡ class_on Own s queue
+        → InStep Own side (pair_after Writes (if p == pair then queue_posts Own s queue label else Nothing))
+        (if not (not (goes_through (pair_plan plan p) s label)) then (if (p == pair) && same_side s side then goes_out now label else now) else now)
+        (if not (not (goes_through (pair_plan plan p) s label) || false) then (if (p == pair) && same_side s side then goes_out (record now { flight = labels }) label else record now { flight = labels }) else record now { flight = labels })
+    queue_posted p s queue label is = go (p == pair) (goes_through (pair_plan plan p) s label) (λ here. ap (λ k. goes_through (pair_plan plan k) s label) (eqb-true p pair here))
+      where
+        go : (b g : Bool) → (b ≡ true → g ≡ goes_through Own s label)
+            → InStep Own side (pair_after Writes (if b then queue_posts Own s queue label else Nothing))
+            (if not (not g) then (if b && same_side s side then goes_out now label else now) else now)
+            (if not (not g || false) then (if b && same_side s side then goes_out (record now { flight = labels }) label else record now { flight = labels }) else record now { flight = labels })
+        go true g here =
+            subst
+            (λ own_goes.
+            InStep Own side (pair_after Writes (if own_goes then Posts s (class_on Own s queue) else Loses))
+            (if not (not g) then (if same_side s side then goes_out now label else now) else now)
+            (if not (not g || false) then (if same_side s side then goes_out (record now { flight = labels }) label else record now { flight = labels }) else record now { flight = labels }))
+            (here refl) (through Own session sides true g s side (class_on Own s queue) label now labels is own)
+        go false g here = through Own session sides false g s side (class_on Own s queue) label now labels is own
 
     each : (step : Step) (answer : Answer) → Fits plan pair now (record { step = step; answer = answer }) → After Writes now labels step answer
     each (Train p) (OkSession n) fits = trained Own session sides (p == pair) n side now labels own
@@ -157,10 +189,8 @@ module _ (plan : Plan) (pair : ℕ) (side : Side) where
         (pad_class (classes_of Own s) label (offer-is_pad (side_plan Own side) now.offered)) own
     each (Ready p s queue) Done fits =
         posted Own session sides (p == pair) s side 0 (Pad links_pad (with_bit now.ready queue)) now.up now.offered now.ready now.offered (with_bit now.ready queue) now.flight labels refl own
-    each (Post p s queue) (Posted label) fits =
-        posted Own session sides (p == pair) s side (class_on Own s queue) label now.up now.offered now.ready now.offered now.ready now.flight labels fits own
-    each (Ack p s queue) (Acked n) fits =
-        posted Own session sides (p == pair) s side (class_on Own s queue) (Index queue n) now.up now.offered now.ready now.offered now.ready now.flight labels refl own
+    each (Post p s queue) (Posted label) fits = queue_posted p s queue label fits
+    each (Ack p s queue) (Acked n) fits = queue_posted p s queue (Index queue n) refl
     each (Spad p s i value) Done fits = posted Own session sides (p == pair) s side 0 (Pad i value) now.up now.offered now.ready now.offered now.ready now.flight labels refl own
     each (Poke p s window offset bytes) Done fits =
         posted Own session sides (p == pair) s side 0 (Raw window offset (length bytes)) now.up now.offered now.ready now.offered now.ready now.flight labels refl own
@@ -170,8 +200,8 @@ module _ (plan : Plan) (pair : ℕ) (side : Side) where
 
   -- an item keeps the writes in step
   pub item_in_step : (writes : PairWrites) (now all : Outbox) (made : Answered) → Fits plan pair now made → InStep Own side writes now all
-      → InStep Own side (with_item plan pair writes made) (outbox_next plan pair side now made) (all_next all made)
+      → InStep Own side (with_item plan pair writes made) (flying_next plan pair side now made) (all_next all made)
   item_in_step writes now all made fits in_step =
-      subst (λ (whole : Outbox). InStep Own side (with_item plan pair writes made) (outbox_next plan pair side now made) (all_next whole made)) (sym in_step.same)
-      (subst (λ up. InStep Own side (with_item plan pair (record writes { up = up }) made) (outbox_next plan pair side now made) (all_next (record now { flight = all.flight }) made)) (sym in_step.link)
+      subst (λ (whole : Outbox). InStep Own side (with_item plan pair writes made) (flying_next plan pair side now made) (all_next whole made)) (sym in_step.same)
+      (subst (λ up. InStep Own side (with_item plan pair (record writes { up = up }) made) (flying_next plan pair side now made) (all_next (record now { flight = all.flight }) made)) (sym in_step.link)
       (each writes.session writes.sides now all.flight in_step.own made.step made.answer fits))

@@ -14,22 +14,23 @@ use Rattle.step_kinds.specs.declared.plan.Plan.{Plan}
 use Rattle.step_kinds.specs.declared.steps.Answer.{Answer}
 use Rattle.step_kinds.specs.declared.steps.Answer.TheVariants.{Ok as Done, OkSession, Offered, Posted, Blocked, Landed, Acked}
 use Rattle.step_kinds.specs.declared.steps.Label.{Label}
+use Rattle.step_kinds.specs.declared.steps.Label.TheVariants.{Index}
 use Rattle.step_kinds.specs.declared.steps.Step.{Step}
 use Rattle.step_kinds.specs.declared.steps.Step.TheVariants.{Train, Break, DropDone, Offer, Ready, Post, Land, Ack, Spad, Poke}
 use Rattle.plan_model.specs.Both.{Both, at_side}
 use Rattle.plan_model.specs.Plans.{pair_plan}
 use Rattle.posted_queue.proofs.Facade.{count_by-remove}
 use Rattle.ledger_model.specs.Log.{Answered, Memories, log_of}
-use Rattle.ledger_laws.specs.Laws.{IsOrdinaryPair}
 use Rattle.ledger_laws.proofs.Facade.{count_by-last, get-map, log_of-last}
-use Rattle.trace_text.specs.Writes.{PairWrites, SideWrites, change_by, number_at, numbers_in, pair_after, pair_start, with_posted}
+use Rattle.trace_text.specs.Writes.{PairWrites, SideWrites, change_by, class_on, goes_through, number_at, numbers_in, pair_after, pair_start, with_posted}
 use Rattle.trace_text.specs.declared.changes.Change.{Change}
-use Rattle.trace_text.specs.declared.changes.Change.TheVariants.{Trains, Breaks, Drops, Posts, Lands, Waits, Nothing}
+use Rattle.trace_text.specs.declared.changes.Change.TheVariants.{Trains, Breaks, Drops, Posts, Loses, Lands, Waits, Nothing}
 use Rattle.trace_text.specs.declared.writes.FlyingWrite.{FlyingWrite}
 use Rattle.trace_laws.specs.Laws.{EachNumberStandsOnce, change_of, dropped_by, dropped_numbers, how_often, landed_by, landed_numbers, pair_writes, taken_from, with_item}
 use Rattle.trace_laws.proofs.AnswersFit.{LandsThere}
-use Rattle.trace_laws.proofs.NumbersInStep.{map-remove}
-use Rattle.trace_laws.proofs.LogsInStep.{all_after, each_longer, made_next, next_lands, outbox_after, run_in_step, writes-last}
+use Rattle.trace_laws.proofs.FlyingLabels.{flying_after}
+use Rattle.trace_laws.proofs.NumbersInStep.{each_longer, map-remove}
+use Rattle.trace_laws.proofs.LogsInStep.{all_after, made_next, next_lands, run_in_step, writes-last}
 
 -- what lands is in flight
 abbrev Inside : Side → PairWrites → Change → Type 0
@@ -110,6 +111,7 @@ module _ (n : ℕ) where
   change_counts A true session sides (Posts B class) l d inside e = same_counts l d (Flying sides.a) (below sides.a.posted) e
   change_counts B true session sides (Posts A class) l d inside e = same_counts l d (Flying sides.b) (below sides.b.posted) e
   change_counts side false session sides (Posts s class) l d inside e = same_counts l d (Flying (at_side sides side)) (below (at_side sides side).posted) e
+  change_counts side up session sides Loses l d inside e = same_counts l d (Flying (at_side sides side)) (below (at_side sides side).posted) e
   change_counts A up session sides (Lands A place) l d inside e =
       landed_counts l d (Flying sides.a) (how_often n (numbers_in (remove sides.a.flight place))) (how_often n (number_at sides.a.flight place ∷ [])) (below sides.a.posted) e
       (ap (λ one. how_often n (numbers_in (remove sides.a.flight place)) + one) (often-one (number_at sides.a.flight place)) ∙ landed_often sides.a.flight place (inside refl))
@@ -129,6 +131,11 @@ module _ (plan : Plan) (pair : ℕ) (side : Side) (writes : PairWrites) (flight 
   inside_if true change there = there refl
   inside_if false change there = tt
 
+  -- a post of a queue's write, whether it goes through or not
+  inside_post : (b : Bool) (s : Side) (class : ℕ) → Inside side writes (if b then Posts s class else Loses)
+  inside_post true s class = tt
+  inside_post false s class = tt
+
   inside : (step : Step) (answer : Answer) → LandsThere pair side flight (record { step = step; answer = answer })
       → subject_of step == pair ≡ true → Inside side writes (change_by (pair_plan plan pair) step answer)
   inside (Train p) (OkSession session) there here = tt
@@ -136,8 +143,8 @@ module _ (plan : Plan) (pair : ℕ) (side : Side) (writes : PairWrites) (flight 
   inside (DropDone p) Done there here = tt
   inside (Offer p s) (Offered index) there here = tt
   inside (Ready p s queue) Done there here = tt
-  inside (Post p s queue) (Posted label) there here = tt
-  inside (Ack p s queue) (Acked k) there here = tt
+  inside (Post p s queue) (Posted label) there here = inside_post (goes_through (pair_plan plan pair) s label) s (class_on (pair_plan plan pair) s queue)
+  inside (Ack p s queue) (Acked k) there here = inside_post (goes_through (pair_plan plan pair) s (Index queue k)) s (class_on (pair_plan plan pair) s queue)
   inside (Spad p s i value) Done there here = tt
   inside (Poke p s window offset bytes) Done there here = tt
   inside (Land p s place) (Landed label) there here =
@@ -162,7 +169,7 @@ taken-last taken plan pair now (first ∷ log) made =
     ∙ sym (append_assoc (taken now (change_of plan pair first)) (taken_from taken plan pair (with_item plan pair now first) log)
     (taken (fold (with_item plan pair) (with_item plan pair now first) log) (change_of plan pair made)))
 
-module _ (plan : Plan) (memories : Memories) (pair : ℕ) (side : Side) (no_raw : IsOrdinaryPair plan pair) (n : ℕ) where
+module _ (plan : Plan) (memories : Memories) (pair : ℕ) (side : Side) (n : ℕ) where
   abbrev Counted : List Answered → Type 0
   Counted log = Counts n side (how_often n (landed_numbers plan log pair side)) (how_often n (dropped_numbers plan log pair side)) (pair_writes plan log pair)
 
@@ -196,11 +203,11 @@ module _ (plan : Plan) (memories : Memories) (pair : ℕ) (side : Side) (no_raw 
       more taken = ap (how_often n) (taken-last taken plan pair (pair_start (pair_plan plan pair)) log made) ∙ often-append n (taken_from taken plan pair (pair_start (pair_plan plan pair)) log) (taken now change)
 
   -- as many writes as labels are in flight
-  as_many : (steps : List Step) → length (at_side (pair_writes plan (log_of plan memories steps) pair).sides side).flight ≡ length (outbox_after plan pair side (log_of plan memories steps)).flight
+  as_many : (steps : List Step) → length (at_side (pair_writes plan (log_of plan memories steps) pair).sides side).flight ≡ length (flying_after plan pair side (log_of plan memories steps)).flight
   as_many steps =
       sym (length-map (at_side (pair_writes plan (log_of plan memories steps) pair).sides side).flight (λ (w : FlyingWrite). slice_get (all_after plan pair side (log_of plan memories steps)).flight w.number))
       ∙ ap length (run_in_step plan pair side memories steps).in_step.own.numbers
-      ∙ length-map (outbox_after plan pair side (log_of plan memories steps)).flight Some
+      ∙ length-map (flying_after plan pair side (log_of plan memories steps)).flight Some
 
   counted : (steps : List Step) → Counted (log_of plan memories steps)
   counted steps = each_longer (λ done. Counted (log_of plan memories done)) counted_fresh next steps
@@ -209,14 +216,14 @@ module _ (plan : Plan) (memories : Memories) (pair : ℕ) (side : Side) (no_raw 
       next done step now =
           subst Counted (sym (log_of-last plan memories done step))
           (counted_more (log_of plan memories done) (made_next plan pair side memories done step)
-          (change_inside plan pair side (pair_writes plan (log_of plan memories done) pair) (outbox_after plan pair side (log_of plan memories done)).flight (as_many done)
-          (made_next plan pair side memories done step) (next_lands plan pair side memories no_raw done step)) now)
+          (change_inside plan pair side (pair_writes plan (log_of plan memories done) pair) (flying_after plan pair side (log_of plan memories done)).flight (as_many done)
+          (made_next plan pair side memories done step) (next_lands plan pair side memories done step)) now)
 
 -- each number stands once among what landed, was dropped or is in flight
 pub each_number_stands_once : EachNumberStandsOnce
-each_number_stands_once plan memories steps pair side n no_raw =
+each_number_stands_once plan memories steps pair side n =
     often-append n landed (dropped ++ flying) ∙ ap (λ rest. how_often n landed + rest) (often-append n dropped flying)
-    ∙ counted plan memories pair side no_raw n steps ∙ ap (below n) (run_in_step plan pair side memories steps).in_step.own.posted
+    ∙ counted plan memories pair side n steps ∙ ap (below n) (run_in_step plan pair side memories steps).in_step.own.posted
   where
     log : List Answered
     log = log_of plan memories steps

@@ -1,27 +1,28 @@
 -- What is so of the numbers of posted writes in every log. A number that a landing names was posted before, belongs to
 -- the label that landed, and lands once. A landing that is blocked names a write that it may not pass. A trace follows
 -- these numbers.
-use Rattle.std.specs.Prelude.{◌≡◌, ℕ, ◌<◌, ◌==◌, Bool, true, false, not, List, [], ◌∷◌, ◌++◌, Some, count_by, filter, length, map, nat_lt, slice_get, slice_index_or, if◌then◌else◌}
+use Rattle.std.specs.Prelude.{◌≡◌, ℕ, ◌<◌, ◌==◌, ◌||◌, Bool, true, false, not, List, [], ◌∷◌, ◌++◌, Some, count_by, filter, length, map, nat_lt, slice_get, slice_index_or, if◌then◌else◌}
 use Rattle.std.specs.List.{fold}
 use Rattle.step_kinds.specs.Sides.{same_side}
 use Rattle.step_kinds.specs.Subject.{subject_of}
 use Rattle.step_kinds.specs.declared.names.Side.{Side}
 use Rattle.step_kinds.specs.declared.plan.Plan.{Plan}
-use Rattle.step_kinds.specs.declared.steps.Answer.TheVariants.{Blocked, Landed}
+use Rattle.step_kinds.specs.declared.steps.Answer.{Answer}
+use Rattle.step_kinds.specs.declared.steps.Answer.TheVariants.{Acked, Blocked, Landed, Posted}
 use Rattle.step_kinds.specs.declared.steps.Label.{Label}
-use Rattle.step_kinds.specs.declared.steps.Label.TheVariants.{Pad}
+use Rattle.step_kinds.specs.declared.steps.Label.TheVariants.{Index, Pad}
 use Rattle.step_kinds.specs.declared.steps.Step.{Step}
-use Rattle.step_kinds.specs.declared.steps.Step.TheVariants.{DropDone, Land}
+use Rattle.step_kinds.specs.declared.steps.Step.TheVariants.{Ack, DropDone, Land, Post}
 use Rattle.order_rules.specs.Order.{Order, passes}
 use Rattle.plan_model.specs.Both.{at_side}
 use Rattle.plan_model.specs.Orders.{order_of}
 use Rattle.plan_model.specs.Plans.{pair_plan}
 use Rattle.ledger_model.specs.Log.{Answered, Memories, log_of}
 use Rattle.ledger_laws.specs.Flights.{in_flight}
-use Rattle.ledger_laws.specs.Laws.{GoesOn, IsOrdinaryPair}
+use Rattle.ledger_laws.specs.Laws.{GoesOn}
 use Rattle.switch_log.specs.Log.{on_bridges, switch_log}
 use Rattle.report_text.specs.Report.{AnsweredStep}
-use Rattle.trace_text.specs.Writes.{PairWrites, SideWrites, change_by, number_at, numbers_in, pair_after, pair_in, pair_start, stopped_by, writes_after, writes_start}
+use Rattle.trace_text.specs.Writes.{PairWrites, SideWrites, change_by, goes_through, number_at, numbers_in, pair_after, pair_in, pair_start, stopped_by, writes_after, writes_start}
 use Rattle.trace_text.specs.declared.changes.Change.{Change}
 use Rattle.trace_text.specs.declared.changes.Change.TheVariants.{Drops, Lands, Nothing}
 
@@ -40,7 +41,19 @@ pair_writes plan log pair = fold (with_item plan pair) (pair_start (pair_plan pl
 abbrev pub side_writes : Plan → List Answered → ℕ → Side → SideWrites
 side_writes plan log pair side = at_side (pair_writes plan log pair).sides side
 
--- What was posted
+-- What was posted, and what is in flight
+
+-- whether an item of the log posts a write that doesn't go through, as on a raw pair whose peer lacks the window
+abbrev pub is_lost : Plan → Answered → Bool
+is_lost plan made = lost made.step made.answer where
+  lost : Step → Answer → Bool
+  lost (Post p s queue) (Posted label) = not (goes_through (pair_plan plan p) s label)
+  lost (Ack p s queue) (Acked n) = not (goes_through (pair_plan plan p) s (Index queue n))
+  lost step answer = false
+
+-- the labels that a side has in flight after a log, in the order of posting
+abbrev pub flying_labels : Plan → List Answered → ℕ → Side → List Label
+flying_labels plan log pair side = in_flight plan (filter (λ made. not (is_lost plan made)) log) pair side
 
 -- whether an item of the log is of a step that takes writes out of what is in flight where it is made: a landing, or a
 -- drop
@@ -51,10 +64,10 @@ takes_out made = takes made.step where
   takes (DropDone pair) = true
   takes step = false
 
--- the labels that a side posted while its pair's link was up, in order: what it would have in flight had nothing landed
--- and nothing been dropped
+-- the labels that a side posted while its pair's link was up and that go through, in order. They are what it would have
+-- in flight had nothing landed and nothing been dropped.
 abbrev pub posted_labels : Plan → List Answered → ℕ → Side → List Label
-posted_labels plan log pair side = in_flight plan (filter (λ made. not (takes_out made)) log) pair side
+posted_labels plan log pair side = in_flight plan (filter (λ made. not (is_lost plan made || takes_out made)) log) pair side
 
 -- Landings
 
@@ -62,7 +75,7 @@ posted_labels plan log pair side = in_flight plan (filter (λ made. not (takes_o
 abbrev pub LandingsAreOfTheirLabels : Type 0
 LandingsAreOfTheirLabels = (plan : Plan) (memories : Memories) (steps : List Step) (pair : ℕ) (side : Side) (place : ℕ) (label : Label) →
     let log = log_of plan memories steps in
-    IsOrdinaryPair plan pair → GoesOn plan memories steps (Land pair side place) (Landed label) →
+    GoesOn plan memories steps (Land pair side place) (Landed label) →
     slice_get (posted_labels plan log pair side) (number_at (side_writes plan log pair side).flight place) ≡ Some label
 
 -- the numbers that a change lands, and those that it drops
@@ -94,7 +107,6 @@ how_often n numbers = count_by (λ m. m == n) numbers
 abbrev pub EachNumberStandsOnce : Type 0
 EachNumberStandsOnce = (plan : Plan) (memories : Memories) (steps : List Step) (pair : ℕ) (side : Side) (n : ℕ) →
     let log = log_of plan memories steps in
-    IsOrdinaryPair plan pair →
     how_often n (landed_numbers plan log pair side ++ (dropped_numbers plan log pair side ++ numbers_in (side_writes plan log pair side).flight))
     ≡ (if nat_lt n (length (posted_labels plan log pair side)) then 1 else 0)
 
@@ -102,7 +114,7 @@ EachNumberStandsOnce = (plan : Plan) (memories : Memories) (steps : List Step) (
 
 -- the order of the write at a place in flight
 abbrev pub order_at : Plan → List Answered → ℕ → Side → ℕ → Order
-order_at plan log pair side place = order_of (pair_plan plan pair) side (slice_index_or (in_flight plan log pair side) place (Pad 0 0))
+order_at plan log pair side place = order_of (pair_plan plan pair) side (slice_index_or (flying_labels plan log pair side) place (Pad 0 0))
 
 -- an earlier write in flight has this number, and the write at the place may not pass it
 pub record IsStoppedBy (plan : Plan) (log : List Answered) (pair : ℕ) (side : Side) (place number : ℕ) : Type 0 where
@@ -114,7 +126,7 @@ pub record IsStoppedBy (plan : Plan) (log : List Answered) (pair : ℕ) (side : 
 abbrev pub BlockedLandingsWait : Type 0
 BlockedLandingsWait = (plan : Plan) (memories : Memories) (steps : List Step) (pair : ℕ) (side : Side) (place : ℕ) →
     let log = log_of plan memories steps in
-    IsOrdinaryPair plan pair → GoesOn plan memories steps (Land pair side place) Blocked →
+    GoesOn plan memories steps (Land pair side place) Blocked →
     IsStoppedBy plan log pair side place (stopped_by (side_writes plan log pair side).flight place)
 
 -- Traces

@@ -7,7 +7,6 @@ use Rattle.step_kinds.specs.declared.steps.Answer.TheVariants.{Blocked, Landed}
 use Rattle.step_kinds.specs.declared.steps.Label.{Label}
 use Rattle.step_kinds.specs.declared.steps.Step.TheVariants.{Land}
 use Rattle.ledger_model.specs.Log.{Answered, Memories}
-use Rattle.ledger_laws.specs.Laws.{IsOrdinaryPair}
 use Rattle.plan_model.specs.Both.{at_side}
 use Rattle.switch_log.specs.Log.{on_bridges, switch_log}
 use Rattle.report_text.specs.Report.{AnsweredStep}
@@ -39,7 +38,7 @@ pub record IsTrueTrace (plan : Plan) (memories : Memories) (lines : List Answere
       line.step ≡ Land pair side place → line.made.answer ≡ Blocked →
       IsStoppedBy plan (bridges_after plan memories before) pair side place (stopped_by (traced_side plan before pair side).flight place)
 
--- so it is of each pair that isn't raw, where the lines have the answers of the log
+-- so it is of each pair, where the lines have the answers of the log
 abbrev pub TracesAreTrue : Type 0
 TracesAreTrue = (plan : Plan) (memories : Memories) (lines : List AnsweredStep) (pair : ℕ) (side : Side) → HaveTheirAnswers plan memories lines →
-    pair < length plan.pairs → IsOrdinaryPair plan pair → IsTrueTrace plan memories lines pair side
+    pair < length plan.pairs → IsTrueTrace plan memories lines pair side

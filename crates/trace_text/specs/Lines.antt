@@ -2,6 +2,7 @@
 use Rattle.std.specs.Prelude.{ℕ, ◌==◌, ◌&&◌, List, [], ◌∷◌, ◌++◌, codes, if◌then◌else◌}
 use Rattle.std.specs.Fmt.{decimal}
 use Rattle.std.specs.List.{flat_map, zip}
+use Rattle.step_kinds.specs.Answers.{is_made}
 use Rattle.step_kinds.specs.Subject.{subject_of}
 use Rattle.step_kinds.specs.declared.plan.Counters.{Counters}
 use Rattle.step_kinds.specs.declared.plan.DevPlan.{DevPlan}
@@ -9,15 +10,16 @@ use Rattle.step_kinds.specs.declared.plan.LineAnswer.{LineAnswer}
 use Rattle.step_kinds.specs.declared.plan.PairPlan.{PairPlan}
 use Rattle.step_kinds.specs.declared.plan.Plan.{Plan}
 use Rattle.step_kinds.specs.declared.names.LaneName.{LaneName}
+use Rattle.step_kinds.specs.declared.steps.Answer.{Answer}
 use Rattle.step_kinds.specs.declared.steps.Step.{Step}
 use Rattle.plan_model.specs.Both.{at_side}
 use Rattle.report_text.specs.Report.{AnsweredStep, line_of, pair_name, side_text}
 use Rattle.report_text.specs.declared.whole.LaneCount.{LaneCount}
 use Rattle.trace_text.specs.Steps.{answer_object, step_object}
-use Rattle.trace_text.specs.Words.{number_member, numbers_list, text_member}
+use Rattle.trace_text.specs.Words.{number_member, numbers_list, text_member, truth_text}
 use Rattle.trace_text.specs.Writes.{PairWrites, change_in, number_at, numbers_in, pair_in, stopped_by, writes_after}
 use Rattle.trace_text.specs.declared.changes.Change.{Change}
-use Rattle.trace_text.specs.declared.changes.Change.TheVariants.{Trains, Breaks, Drops, Posts, Lands, Waits, Nothing}
+use Rattle.trace_text.specs.declared.changes.Change.TheVariants.{Trains, Breaks, Drops, Posts, Loses, Lands, Waits, Nothing}
 
 -- the first line, with the version of this form
 abbrev pub first_line : List ℕ
@@ -32,6 +34,10 @@ abbrev pub dropped_members : PairWrites → List ℕ
 dropped_members now =
     codes ",\"dropped\":{\"A\":" ++ numbers_list (numbers_in now.sides.a.flight) ++ codes ",\"B\":" ++ numbers_list (numbers_in now.sides.b.flight) ++ codes "}"
 
+-- whether the step was made
+abbrev pub made_member : Answer → List ℕ
+made_member answer = codes ",\"made\":" ++ truth_text (is_made answer)
+
 -- What a step changes, said with the numbers of the writes. A post has the number of the write, or null where it is
 -- lost. A landing has the number of the write that landed, and how many earlier ones it passed. One that is blocked has
 -- the number of the write and of that which it waits for. A drop has the numbers of all that are lost.
@@ -40,6 +46,7 @@ change_members now (Trains session) = link_members (codes "up") session
 change_members now Breaks = link_members (codes "closing") now.session
 change_members now Drops = dropped_members now ++ link_members (codes "down") now.session
 change_members now (Posts side class) = if now.up then number_member (codes ",\"write\":") (at_side now.sides side).posted else codes ",\"write\":null"
+change_members now Loses = codes ",\"write\":null"
 change_members now (Lands side place) =
     number_member (codes ",\"write\":") (number_at (at_side now.sides side).flight place) ++ number_member (codes ",\"passed\":") place
 change_members now (Waits side place) =
@@ -47,11 +54,11 @@ change_members now (Waits side place) =
     ++ number_member (codes ",\"waits_for\":") (stopped_by (at_side now.sides side).flight place)
 change_members now Nothing = []
 
--- the line of a step, its line in the script, its answer, and what it changes
+-- the line of a step, its line in the script, its answer, whether it was made, and what it changes
 abbrev pub step_line : Plan → List PairWrites → Step → LineAnswer → List ℕ
 step_line plan writes step made =
     line_of
-    (codes "{\"line\":" ++ decimal made.line ++ codes ",\"step\":" ++ step_object plan step ++ codes ",\"answer\":" ++ answer_object made.answer
+    (codes "{\"line\":" ++ decimal made.line ++ codes ",\"step\":" ++ step_object plan step ++ codes ",\"answer\":" ++ answer_object made.answer ++ made_member made.answer
     ++ change_members (pair_in writes (subject_of step)) (change_in plan.pairs step made.answer) ++ codes "}")
 
 -- the lines of steps, from these numbers of writes on

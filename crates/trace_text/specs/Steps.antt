@@ -10,7 +10,7 @@ use Rattle.step_kinds.specs.declared.steps.Step.{Step}
 use Rattle.step_kinds.specs.declared.steps.Step.TheVariants.{Enable, Train, Break, DropDone, Clean, Offer, Check, Ready, Join, Begin, QpDown, Xbegin, Post, Land, Look, Copy, Clear, Ack, Wake, Irq, Mask, Unmask, Spad, Poke, ShowMem, ShowPad, ShowQueue, Relay, Xnext}
 use Rattle.plan_model.specs.Plans.{dev_plan, switch_plan}
 use Rattle.report_text.specs.Report.{pair_name, side_text}
-use Rattle.trace_text.specs.Words.{bytes_member, label_object, named_object, number_member, text_member}
+use Rattle.trace_text.specs.Words.{bytes_member, label_object, named_object, number_member, text_member, wide_member}
 
 -- Where a step is made
 
@@ -179,7 +179,7 @@ answer_members (Offered index) = number_member (codes ",\"index\":") index
 answer_members (Version seen own) = seen_and_own seen own
 answer_members (Queues seen own) = seen_and_own seen own
 answer_members (Windows seen own) = seen_and_own seen own
-answer_members (Size seen cap) = number_member (codes ",\"seen\":") seen ++ number_member (codes ",\"cap\":") cap
+answer_members (Size seen cap) = wide_member (codes ",\"seen\":") seen ++ number_member (codes ",\"cap\":") cap
 answer_members (TooLong len most) = len_and_most len most
 answer_members (Again head tail) = number_member (codes ",\"head\":") head ++ number_member (codes ",\"tail\":") tail
 answer_members (Posted label) = label_member label

@@ -1,6 +1,6 @@
 -- Members of a JSON object. Each text stands as it is written; names of a script are letters and digits, so no text has
 -- to be escaped.
-use Rattle.std.specs.Prelude.{ℕ, Bool, true, false, List, [], ◌∷◌, ◌++◌, codes}
+use Rattle.std.specs.Prelude.{ℕ, ◌^◌, Bool, true, false, List, [], ◌∷◌, ◌++◌, codes, nat_lt, if◌then◌else◌}
 use Rattle.std.specs.Fmt.{decimal}
 use Rattle.std.specs.List.{flat_map}
 use Rattle.hex.specs.Hex.{encode_lower}
@@ -15,6 +15,14 @@ number_member name n = name ++ decimal n
 -- a text within quotation marks
 unfoldable pub text_member : List ℕ → List ℕ → List ℕ
 text_member name text = name ++ 34 ∷ text ++ 34 ∷ []
+
+-- below this each reader of JSON has a number exactly
+abbrev pub exact_numbers : ℕ
+exact_numbers = 2 ^ 53
+
+-- a number that may be larger: from there on its digits stand within quotation marks
+abbrev pub wide_member : List ℕ → ℕ → List ℕ
+wide_member name n = if nat_lt n exact_numbers then number_member name n else text_member name (decimal n)
 
 -- bytes, as hexadecimal digits within quotation marks
 abbrev pub bytes_member : List ℕ → List ℕ → List ℕ

@@ -1,6 +1,6 @@
 -- The numbers of posted writes. A side's writes are numbered from 0 over the whole run. The number of a write is where
--- it stands among those that its side posted while the pair's link was up. A write that was posted while it wasn't is
--- lost, and has none.
+-- it stands among those of its side that weren't lost as they were posted. A write is lost so where the pair's link
+-- isn't up, and on a raw pair where the peer lacks the window that it goes through. It has no number.
 use Rattle.std.specs.Prelude.{ℕ, ◌+◌, ◌==◌, Bool, true, false, List, [], ◌∷◌, ◌++◌, map, remove, slice_index_or, slice_set, take, if◌then◌else◌}
 use Rattle.std.specs.List.{fold}
 use Rattle.step_kinds.specs.Subject.{subject_of}
@@ -8,16 +8,19 @@ use Rattle.step_kinds.specs.declared.names.Side.{Side}
 use Rattle.step_kinds.specs.declared.plan.PairPlan.{PairPlan}
 use Rattle.step_kinds.specs.declared.steps.Answer.{Answer}
 use Rattle.step_kinds.specs.declared.steps.Answer.TheVariants.{Ok as Done, OkSession, Offered, Posted, Blocked, Landed, Acked}
+use Rattle.step_kinds.specs.declared.steps.Label.{Label}
+use Rattle.step_kinds.specs.declared.steps.Label.TheVariants.{Index}
 use Rattle.step_kinds.specs.declared.steps.Step.{Step}
 use Rattle.step_kinds.specs.declared.steps.Step.TheVariants.{Train, Break, DropDone, Offer, Ready, Post, Land, Ack, Spad, Poke}
 use Rattle.plan_model.specs.Both.{Both, at_side, both_of, with_side}
 use Rattle.plan_model.specs.Orders.{classes_of}
 use Rattle.plan_model.specs.Plans.{no_pair}
+use Rattle.ledger_model.specs.Reading.{has_window}
 use Rattle.trace_text.specs.declared.changes.Change.{Change}
-use Rattle.trace_text.specs.declared.changes.Change.TheVariants.{Trains, Breaks, Drops, Posts, Lands, Waits, Nothing}
+use Rattle.trace_text.specs.declared.changes.Change.TheVariants.{Trains, Breaks, Drops, Posts, Loses, Lands, Waits, Nothing}
 use Rattle.trace_text.specs.declared.writes.FlyingWrite.{FlyingWrite}
 
--- of a side: how many writes it posted while the link was up, and those of them that are in flight, in the order of
+-- of a side: how many writes it posted that have a number, and those of them that are in flight, in the order of
 -- posting
 pub record SideWrites : Type 0 where
   pub posted : ℕ
@@ -35,6 +38,15 @@ pub record PairWrites : Type 0 where
 abbrev pub class_on : PairPlan → Side → ℕ → ℕ
 class_on plan side queue = slice_index_or (classes_of plan side) queue 0
 
+-- whether a write that a side posts on a link that is up is in flight then. On a raw pair it is lost where the peer
+-- lacks the window that it goes through.
+abbrev pub goes_through : PairPlan → Side → Label → Bool
+goes_through plan side label = if plan.raw then has_window plan side label else true
+
+-- what the post of a queue's write changes
+abbrev pub queue_posts : PairPlan → Side → ℕ → Label → Change
+queue_posts plan side queue label = if goes_through plan side label then Posts side (class_on plan side queue) else Loses
+
 -- what a step on this pair, answered so, changes of the pair's link and writes. A write past the queues has class 0.
 abbrev pub change_by : PairPlan → Step → Answer → Change
 change_by plan (Train pair) (OkSession session) = Trains session
@@ -42,8 +54,8 @@ change_by plan (Break pair) Done = Breaks
 change_by plan (DropDone pair) Done = Drops
 change_by plan (Offer pair side) (Offered index) = Posts side 0
 change_by plan (Ready pair side queue) Done = Posts side 0
-change_by plan (Post pair side queue) (Posted label) = Posts side (class_on plan side queue)
-change_by plan (Ack pair side queue) (Acked n) = Posts side (class_on plan side queue)
+change_by plan (Post pair side queue) (Posted label) = queue_posts plan side queue label
+change_by plan (Ack pair side queue) (Acked n) = queue_posts plan side queue (Index queue n)
 change_by plan (Spad pair side index value) Done = Posts side 0
 change_by plan (Poke pair side window offset bytes) Done = Posts side 0
 change_by plan (Land pair side place) (Landed label) = Lands side place
@@ -69,6 +81,7 @@ pair_after now (Trains session) = record now { up = true; session = session }
 pair_after now Breaks = record now { up = false }
 pair_after now Drops = record now { up = false; sides = record { a = with_dropped now.sides.a; b = with_dropped now.sides.b } }
 pair_after now (Posts side class) = if now.up then record now { sides = with_side now.sides side (with_posted (at_side now.sides side) class) } else now
+pair_after now Loses = now
 pair_after now (Lands side place) = record now { sides = with_side now.sides side (with_landed (at_side now.sides side) place) }
 pair_after now (Waits side place) = now
 pair_after now Nothing = now

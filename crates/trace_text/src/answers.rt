@@ -3,7 +3,7 @@
 ghost use Rattle.std.specs.Prelude.{◌≡◌, ◌++◌, OnOk};
 ghost use Rattle.trace_text.specs.Steps.{answer_members, answer_object, label_member, len_and_most, seen_and_own, shown_member};
 
-use crate::members::{push_bytes_member, push_label, push_number_member};
+use crate::members::{push_bytes_member, push_label, push_number_member, push_wide_member};
 use crate::words::answer_name;
 use report_text::append::push_word;
 use std::alloc::AllocError;
@@ -39,7 +39,7 @@ fn push_answer_members(text: &mut Vec<u8>, answer: &Answer) -> Result<(), AllocE
         | Answer::Windows { seen, own }
         | Answer::VerDiffers { seen, own } => push_seen_and_own(text, *seen, *own),
         Answer::Size { seen, cap } => {
-            push_number_member(text, ",\"seen\":", *seen)?;
+            push_wide_member(text, ",\"seen\":", *seen)?;
             push_number_member(text, ",\"cap\":", *cap)
         }
         Answer::TooLong { len, max } | Answer::Long { len, max } => push_len_and_most(

@@ -2,11 +2,15 @@
 
 ghost use Rattle.std.specs.Prelude.{◌≡◌, if◌then◌else◌, slice_index_or};
 ghost use Rattle.plan_model.specs.Plans.{no_pair};
+ghost use Rattle.ledger_model.specs.Reading.{has_window as is_there};
 ghost use Rattle.step_kinds.specs.declared.steps.Step.TheVariants.{Land, Train};
-ghost use Rattle.trace_text.specs.Writes.{change_by, class_on as class_of_pair};
+ghost use Rattle.ring_geometry.specs.Geometry.{window_of};
+ghost use Rattle.plan_model.specs.Sizes.{layout_of};
+ghost use Rattle.trace_text.specs.Writes.{change_by, class_on as class_of_pair, goes_through as is_through, queue_posts};
 ghost use Rattle.trace_text.specs.declared.changes.Change.TheVariants.{Nothing, Posts};
 
-use step_kinds::{Answer, PairPlan, Side};
+use plan_numbers::side_plan;
+use step_kinds::{Answer, Label, PairPlan, Side};
 
 /// What a step, as it was answered, changes of its pair's link and of the writes in flight there.
 #[derive(Clone, Copy, Debug, PartialEq, Eq)]
@@ -27,6 +31,8 @@ pub enum Change {
         /// The traffic class, 0 to 7.
         class: u32,
     },
+    /// A write is posted, and is lost whatever the link: the peer of a raw pair lacks the window that it goes through.
+    Loses,
     /// The write at a place in flight lands.
     Lands {
         /// The side that posted it.
@@ -81,6 +87,56 @@ pub fn landing(side: Side, place: u32, answer: &Answer) -> Change
     } else {
         Change::Nothing
     }
+}
+
+/// The change by the post of a queue's write. It is lost where the pair is raw and the peer lacks the write's window.
+pub fn queue_post(pairs: &[PairPlan], pair: u32, side: Side, queue: u32, label: &Label) -> Change
+    ensures { result ≡ queue_posts (slice_index_or pairs.now pair no_pair) side queue label.now }
+{
+    if goes_through(pairs, pair, side, label) {
+        Change::Posts {
+            side,
+            class: class_on(pairs, pair, side, queue),
+        }
+    } else {
+        Change::Loses
+    }
+}
+
+// Whether a write that a side posts is in flight then, where the link is up.
+fn goes_through(pairs: &[PairPlan], pair: u32, side: Side, label: &Label) -> bool
+    ensures { result ≡ is_through (slice_index_or pairs.now pair no_pair) side label.now }
+{
+    match pairs.get(pair as usize) {
+        Some(plan) => !plan.raw || has_window(plan, side, label),
+        None => true,
+    }
+}
+
+// Whether the peer has the window that a side's write goes through. A doorbell and a scratchpad go through none.
+fn has_window(plan: &PairPlan, side: Side, label: &Label) -> bool
+    ensures { result ≡ is_there plan.now side label.now }
+{
+    let window = match label {
+        Label::Chunk { queue, .. }
+        | Label::Len { queue, .. }
+        | Label::Ver { queue, .. }
+        | Label::Flag { queue, .. }
+        | Label::Down { queue, .. }
+        | Label::Index { queue, .. } => window_on(plan, side, *queue),
+        Label::Raw { window, .. } => *window,
+        Label::Bell { .. } | Label::Pad { .. } => 0,
+    };
+    window < side_plan(plan, side.other()).windows
+}
+
+// The window that a side sends through on a queue. A side without windows, which no script declares, has the queue's.
+fn window_on(plan: &PairPlan, side: Side, queue: u32) -> u32
+    ensures { result ≡ window_of (layout_of plan.now side queue) }
+{
+    queue
+        .checked_rem(side_plan(plan, side).windows)
+        .unwrap_or(queue)
 }
 
 /// The traffic class of a side's writes on a queue. It is 0 past the queues and past the pairs.

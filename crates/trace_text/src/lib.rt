@@ -1,6 +1,6 @@
 //! The lines of a trace: each step of a script with its answer, and which of the writes in flight it concerns, as one
-//! JSON object a line. A side's writes are numbered from 0 over the whole run, in the order in which they were posted
-//! while the link was up.
+//! JSON object a line. A side's writes are numbered from 0 over the whole run, in the order in which they were posted.
+//! One that is lost as it is posted has none.
 #![tactic(auto)]
 
 mod answers;

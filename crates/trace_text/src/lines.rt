@@ -3,7 +3,7 @@
 ghost use Rattle.std.specs.Prelude.{◌≡◌, ◌++◌, OnOk, codes};
 ghost use Rattle.trace_text.specs.Words.{number_member};
 ghost use Rattle.trace_text.specs.Writes.{number_at};
-ghost use Rattle.trace_text.specs.Lines.{change_members, dropped_members, link_members, step_line};
+ghost use Rattle.trace_text.specs.Lines.{change_members, dropped_members, link_members, made_member, step_line};
 ghost use Rattle.trace_text.specs.declared.changes.Change.TheVariants.{Posts};
 
 use crate::answers::push_answer;
@@ -13,11 +13,11 @@ use crate::steps::{change_in, push_step};
 use crate::writes::{PairNumbers, SideNumbers, WriteNumbers};
 use report_text::append::push_word;
 use std::alloc::AllocError;
-use step_kinds::{LineAnswer, Plan, Side, Step};
+use step_kinds::{Answer, LineAnswer, Plan, Side, Step};
 
-/// Adds the line of a step: its line in the script, the step, its answer, and what it changes of the link or of the
-/// writes in flight. `writes` are those before the step. The only error is running out of memory, and then some part of
-/// the line may have been added.
+/// Adds the line of a step: its line in the script, the step, its answer, and whether it was made. Then comes what it
+/// changes of the link or of the writes in flight. `writes` are those before the step. The only error is running out of
+/// memory, and then some part of the line may have been added.
 pub fn push_step_line(
     text: &mut Vec<u8>,
     plan: &Plan,
@@ -33,9 +33,21 @@ pub fn push_step_line(
     push_step(text, plan, step)?;
     push_word(text, ",\"answer\":")?;
     push_answer(text, &made.answer)?;
+    push_made(text, &made.answer)?;
     let change = change_in(plan.pairs.as_slice(), step, &made.answer);
     push_change(text, writes.pair(step.subject()), change)?;
     push_word(text, "}\n")
+}
+
+// Adds whether a step that got this answer was made.
+fn push_made(text: &mut Vec<u8>, answer: &Answer) -> Result<(), AllocError>
+    ensures { OnOk result (text.new.items ≡ text.old.items ++ made_member answer.now) }
+{
+    if answer.is_made() {
+        push_word(text, ",\"made\":true")
+    } else {
+        push_word(text, ",\"made\":false")
+    }
 }
 
 // Adds what a step changes on a pair, said with the numbers of the writes.
@@ -50,6 +62,7 @@ fn push_change(text: &mut Vec<u8>, pair: &PairNumbers, change: Change) -> Result
             push_link(text, b"down", pair.session())
         }
         Change::Posts { side, .. } => push_post(text, pair, side),
+        Change::Loses => push_word(text, ",\"write\":null"),
         Change::Lands { side, place } => {
             push_flying(text, pair.side(side), place)?;
             push_number_member(text, ",\"passed\":", u64::from(place))

@@ -2,7 +2,7 @@
 
 ghost use Rattle.std.specs.Prelude.{◌≡◌, ◌++◌, OnOk};
 ghost use Rattle.std.specs.Fmt.{decimal};
-ghost use Rattle.trace_text.specs.Words.{bytes_member, label_members, label_object, number_member, numbers_list, of_entry, text_member};
+ghost use Rattle.trace_text.specs.Words.{bytes_member, label_members, label_object, number_member, numbers_list, of_entry, text_member, wide_member};
 ghost use Rattle.trace_text.specs.Writes.{numbers_in};
 
 use crate::words::label_name;
@@ -11,6 +11,9 @@ use itoa::Buffer;
 use report_text::append::{push_hex, push_word};
 use std::alloc::AllocError;
 use step_kinds::Label;
+
+// Numbers below are numbers in a trace.
+const EXACT_NUMBERS: u64 = 1 << 53;
 
 /// Adds a number. The only error is running out of memory.
 pub fn push_number(text: &mut Vec<u8>, number: u64) -> Result<(), AllocError>
@@ -31,6 +34,21 @@ pub fn push_number_member(text: &mut Vec<u8>, name: &str, number: u64) -> Result
 {
     push_word(text, name)?;
     push_number(text, number)
+}
+
+/// Adds a member with a number that may be large: from 2^53 on its digits stand within quotation marks, since some
+/// readers of JSON have no larger numbers. The only error is running out of memory.
+#[tactic(auto, unfolding(crate::specs::Words::text_member))]
+pub fn push_wide_member(text: &mut Vec<u8>, name: &str, number: u64) -> Result<(), AllocError>
+    ensures { OnOk result (text.new.items ≡ text.old.items ++ wide_member name.now number) }
+{
+    if number < EXACT_NUMBERS {
+        return push_number_member(text, name, number);
+    }
+    push_word(text, name)?;
+    push_word(text, "\"")?;
+    push_number(text, number)?;
+    push_word(text, "\"")
 }
 
 /// Adds a member of a JSON object with a text, within quotation marks and as it is: nothing is escaped. `name` has the

@@ -7,12 +7,12 @@ ghost use Rattle.trace_text.specs.Steps.{ethernet_members, of_device, on_pair, o
 ghost use Rattle.trace_text.specs.Words.{text_member};
 ghost use Rattle.trace_text.specs.Writes.{change_in as change_of_pairs};
 
-use crate::changes::{Change, class_on, landing, only_if, posts_if, trained};
+use crate::changes::{Change, landing, only_if, posts_if, queue_post, trained};
 use crate::members::{push_bytes_member, push_number_member, push_text_member};
 use crate::words::side_name;
 use report_text::append::push_word;
 use std::alloc::AllocError;
-use step_kinds::{Answer, Frame, PairPlan, Plan, Side, Step};
+use step_kinds::{Answer, Frame, Label, PairPlan, Plan, Side, Step};
 
 /// Adds a step as an object. Nothing is added for the name of a pair, a device or a switch that the plan hasn't. The
 /// only error is running out of memory.
@@ -193,12 +193,22 @@ pub fn change_in(pairs: &[PairPlan], step: &Step, answer: &Answer) -> Change
         }
         Step::Offer { side, .. } => posts_if(matches!(answer, Answer::Offered { .. }), *side, 0),
         Step::Post { pair, side, queue } => {
-            let class = class_on(pairs, *pair, *side, *queue);
-            posts_if(matches!(answer, Answer::Posted { .. }), *side, class)
+            if let Answer::Posted { label } = answer {
+                queue_post(pairs, *pair, *side, *queue, label)
+            } else {
+                Change::Nothing
+            }
         }
         Step::Ack { pair, side, queue } => {
-            let class = class_on(pairs, *pair, *side, *queue);
-            posts_if(matches!(answer, Answer::Acked { .. }), *side, class)
+            if let Answer::Acked { number } = answer {
+                let label = Label::Index {
+                    queue: *queue,
+                    number: *number,
+                };
+                queue_post(pairs, *pair, *side, *queue, &label)
+            } else {
+                Change::Nothing
+            }
         }
         Step::Land { side, place, .. } => landing(*side, *place, answer),
         Step::Enable { .. }

@@ -28,7 +28,7 @@ use step_kinds::{Answer, PairPlan, Side, Step};
 /// A write in flight: its number, and its traffic class.
 #[derive(Clone, Copy)]
 pub struct FlyingWrite {
-    /// How many writes its side posted before it while the link was up, over the whole run.
+    /// How many writes with a number its side posted before it, over the whole run.
     pub number: u64,
     /// Its traffic class.
     pub class: u32,
@@ -48,8 +48,8 @@ impl Ordered for FlyingWrite {
     }
 }
 
-/// The writes that one side of a pair posted while the link was up: how many there were, and those in flight with their
-/// numbers. Contracts see both.
+/// The writes of one side of a pair that weren't lost as they were posted: how many there were, and those in flight
+/// with their numbers. Contracts see both.
 #[derive(Drop)]
 pub struct SideNumbers {
     posted: u64,
@@ -67,7 +67,7 @@ impl SideNumbers {
         }
     }
 
-    /// How many writes the side posted while the link was up: the number of the next one.
+    /// How many writes with a number the side posted: the number of the next one.
     pub fn posted(&self) -> u64
         ensures { result ≡ self.now.posted }
     {
@@ -235,7 +235,7 @@ impl PairNumbers {
                 }
             }
             Change::Lands { side, place } => self.land(side, place),
-            Change::Waits { .. } | Change::Nothing => {}
+            Change::Loses | Change::Waits { .. } | Change::Nothing => {}
         }
         Ok(())
     }

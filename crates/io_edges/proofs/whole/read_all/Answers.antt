@@ -31,6 +31,7 @@ returns-in_err-count g c =
       calm = read.calm;
       rest = read.rest;
       reads = read.reads;
+      reads_ok = read.reads_ok;
       reads_long = read.reads_long;
     }
 
@@ -53,6 +54,7 @@ returns-in_err-buffer g c =
       calm = read.calm;
       rest = read.rest;
       reads = read.reads;
+      reads_ok = read.reads_ok;
       reads_long = read.reads_long;
     }
 
@@ -78,6 +80,7 @@ returns-then-count-eq0 g c =
       calm = read.calm;
       rest = read.rest;
       reads = read.reads;
+      reads_ok = read.reads_ok;
       reads_long = read.reads_long;
     }
 
@@ -99,5 +102,6 @@ returns g c =
       calm = read.calm;
       rest = read.rest;
       reads = read.reads;
+      reads_ok = read.reads_ok;
       reads_long = read.reads_long;
     }

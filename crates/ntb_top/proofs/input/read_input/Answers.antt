@@ -10,4 +10,4 @@ returns-in-Err-TooLong g c =
     let is = c.in-Err-TooLong.is ∙ ap Err c.in-Err-TooLong.field-0-is in
     input_too_long c.args.reads _ _ c.if-not-reads.false (err_known (λ (content : List ℕ). most_script_bytes < length content) left _ is c.read_all.ensures.too_long)
     (err_known (λ (content : List ℕ). left' ≡ Some (drop (most_script_bytes + 1) content)) left _ is c.read_all.ensures.taken) c.read_all.ensures.rest
-    (c.read_all.ensures.calm (λ failed. not_failed _ is failed))
+    (c.read_all.ensures.reads_long is) (c.read_all.ensures.calm (λ failed. not_failed _ is failed))

@@ -20,4 +20,4 @@ returns c = λ dev.
 pub returns-in_err-answer : goal.returns-in_err-answer
 returns-in_err-answer c = λ dev.
     let p = err_from_is_err_and c.from_residual.result c.from_residual.ensures.1 in
-    unstepped (cluster_seen c.self.inside) c.args.self.now c.step.new.self c.args.own dev c.args.next.frame c.in_err-answer.field-0.0 p.0 c.from_residual.result c.self.view_is p.1 c.in_err-answer.ensures
+    unstepped (cluster_seen c.self.inside) c.args.self.now c.step.new.self c.args.own dev c.args.next c.in_err-answer.field-0.0 p.0 c.from_residual.result c.self.view_is p.1 c.requires.first c.in_err-answer.ensures

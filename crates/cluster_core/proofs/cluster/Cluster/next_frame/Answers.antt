@@ -1,13 +1,13 @@
-use Rattle.std.proofs.Common.{◌≡◌, ◌<◌, List, length, ap, subst, arith}
+use Rattle.std.proofs.Common.{◌≡◌, ◌<◌, true, List, length, refl, ap, sym, subst, arith}
 use Rattle.step_kinds.specs.declared.plan.SwitchPlan.{SwitchPlan}
 use Rattle.switch_model.specs.Switch.{list_of}
 use Rattle.learn_switch.specs.Frames.{Bytes}
 use Rattle.cluster_core.specs.Cluster.{ClusterState}
 use Rattle.cluster_core.specs.Clusters.{cluster_seen}
-use Rattle.cluster_core.specs.Moves.{HasWaiting}
+use Rattle.cluster_core.specs.Moves.{HasWaiting, does_send, sending_in}
 use Rattle.cluster_core.specs.Parts.{IsPortAmong}
 use Rattle.cluster_core.proofs.HavePorts.{switch_found, switch_within, waiting_within}
-use Rattle.cluster_core.proofs.StepsOfNetworks.{sending_is, some_waits}
+use Rattle.cluster_core.proofs.StepsOfNetworks.{sending_is, some_waits, where_err}
 use Rattle.cluster_core.proofs.cluster.Cluster.next_frame.Goals as goal
 
 pub index-requires : goal.index-requires
@@ -41,3 +41,12 @@ returns-clause-fits c =
           subst (λ (cluster : ClusterState). HasWaiting cluster c.in-Some.place) c.self.view_is
           (subst (λ (switch : Bytes). 0 < length (list_of switch.waiting c.in-Some.place.port)) found waits);
     }
+
+pub returns-in_err-copy_of-clause-wants : goal.returns-in_err-copy_of-clause-wants
+returns-in_err-copy_of-clause-wants c =
+    let among = subst (λ (plans : List SwitchPlan). IsPortAmong plans c.in-Some.place.switch c.in-Some.place.port) c.deref.ensures.value c.in-Some.ensures.among in
+    let found = switch_found c.self.inside.plans.items c.self.inside.switches.items c.in-Some.place.switch c.in-Some.place.port c.index.result.now c.self.invariant.ports among c.index.ensures in
+    let sends = sending_is (cluster_seen c.self.inside) c.args.self.now c.args.own c.in-Some.place c.devices.result.now c.deref.result.now c.index.result.now c.in-Some-first.frame.now c.in-Some-first.frame.now
+    c.self.view_is c.devices.ensures c.deref.ensures.value c.in-Some.ensures.value found c.in-Some-first.ensures.value refl in
+    let does : does_send (sending_in c.args.self.now c.args.own) ≡ true = ap does_send (sym sends) in
+    where_err c.from_residual.result does

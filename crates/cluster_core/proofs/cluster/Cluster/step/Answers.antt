@@ -10,7 +10,7 @@ send_next-requires c = sending_device (plan_held c.args.self.now) c.args.step.no
 pub returns-in-Relays : goal.returns-in-Relays
 returns-in-Relays c =
     by_relay c.args.self.now c.relay.new.self c.args.step.now c.in-Relays.switch c.in-Relays.port c.relay.result (sym c.part_of.ensures ∙ c.in-Relays.is)
-    (λ pair side queue. relays c.args.self.now c.relay.new.self pair side queue c.in-Relays.switch c.in-Relays.port c.relay.result c.relay.ensures.answer c.relay.ensures.after c.relay.ensures.err)
+    (λ pair side queue. relays c.args.self.now c.relay.new.self pair side queue c.in-Relays.switch c.in-Relays.port c.relay.result c.relay.ensures.answer c.relay.ensures.after c.relay.ensures.err c.relay.ensures.wants)
 
 pub returns-in-Sends : goal.returns-in-Sends
 returns-in-Sends c = by_sending c.args.self.now c.send_next.new.self c.args.step.now c.in-Sends.own c.send_next.result (sym c.part_of.ensures ∙ c.in-Sends.is) c.send_next.ensures

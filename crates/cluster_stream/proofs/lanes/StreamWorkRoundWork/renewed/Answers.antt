@@ -26,8 +26,8 @@ invariant_of-result c =
     next_work laws w c.in_ok-end.end next.result.sender next.result.receiver c.in_ok-new.field-0 c.push_reserved.new.self.items c.push_reserved-2.new.self (w.ahead - 1) c.self.invariant less cut c.in_ok-end.ensures
     next.ensures.sender next.ensures.receiver c.in_ok-new.ensures (rw c.reserve.ensures.items at c.push_reserved.ensures.items) c.push_reserved-2.ensures.items
 
-pub returns : goal.returns
-returns c =
+pub returns-clause-key : goal.returns-clause-key
+returns-clause-key c =
     let next = c.next_ends-sender in
     let items = ap (λ (s : SessionState). s.key.items) c.in_ok-new.ensures ∙ next_items c.self.inside c.in_ok-end.end next.result.sender c.in_ok-end.ensures next.ensures.sender in
-    key_is refl refl refl items ∙ ap (λ (s : LaneState). s.key) c.self.view_is
+    key_is refl refl refl refl items ∙ ap (λ (s : LaneState). s.key) c.self.view_is

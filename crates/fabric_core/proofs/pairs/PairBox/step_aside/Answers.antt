@@ -1,5 +1,5 @@
 use Rattle.std.proofs.Common.{◌≡◌, IfOk, OnErr, OnOk, subst, true}
-use Rattle.ledger_laws.specs.Laws.{is_made}
+use Rattle.step_kinds.specs.Answers.{is_made}
 use Rattle.fabric_core.specs.PairBoxes.{pair_seen}
 use Rattle.fabric_rule.specs.Parts.{PairState, plain_pair, with_bridge}
 use Rattle.fabric_core.proofs.SteppedPairs.{stepped_after, stepped_whole}
