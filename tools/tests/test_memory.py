@@ -21,7 +21,8 @@ COUNTS = {
 LINES = FRAMES + 1 + 2 + 1
 # A run that lacks memory is to end within so many seconds.
 MOST_SECONDS = 120
-# So many sizes are tried, of which so many are below that of a whole run. A thread's stack is small beside them.
+# So many sizes are tried, of which so many are below one that let a whole run end. How much a run of several threads
+# takes differs from time to time; with the last size, the largest, each has enough. A thread's stack is small beside them.
 MOST_SIZES, MOST_STEPS = 64, 56
 LARGEST = 1 << 30
 STACK = 1 << 19
@@ -60,8 +61,7 @@ class Memory(unittest.TestCase):
         first, last = least("usage", 2), least(command, 0)
         self.assertLess(first, last)
         found = set()
-        for number in range(MOST_SIZES):
-            size = first + (last - first) * number // MOST_STEPS
+        for size in (*(first + (last - first) * number // MOST_STEPS for number in range(MOST_SIZES)), LARGEST):
             with self.subTest(command=command, size=size):
                 done = limited(command, size)
                 self.assertIn((done.returncode, done.stderr), ((0, b""), (6, b"")))
