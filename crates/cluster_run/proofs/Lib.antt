@@ -6,6 +6,7 @@ pub mod LaneLists
 mod PlacesOfLanes
 mod RecordFits
 pub mod RunSoFar
+mod Streams
 mod TrafficByLane
 mod TrafficCounts
 mod TrafficLanes

@@ -8,3 +8,4 @@ pub mod Sessions
 pub mod Tasks
 pub mod WorkerFields
 pub mod Workers
+pub mod stream

@@ -2,7 +2,7 @@
 use Rattle.std.specs.Prelude.{◌≡◌, ℕ, Option, Some, None, Ok, List, [], map, option_map}
 use Rattle.cluster_run.specs.Lanes.{traffic_lanes}
 use Rattle.cluster_run.specs.Runs.{IsFit, IsShown}
-use Rattle.cluster_stream.specs.Streams.{AreResumed, StreamShown, streams_shown}
+use Rattle.cluster_run.specs.stream.Streams.{AreResumed, StreamShown, streams_shown}
 use Rattle.command_reply.specs.Statuses.{number_of}
 use Rattle.command_reply.specs.declared.status.Status.TheVariants.{Done}
 use Rattle.io_edges.specs.Whole.{HoldsAll}

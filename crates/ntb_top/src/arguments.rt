@@ -4,7 +4,7 @@ ghost use Rattle.std.specs.Prelude.{◌≡◌, IfOk, IsErr, drop, map};
 ghost use Rattle.std.specs.String.{string_bytes};
 ghost use Rattle.std.specs.Vec.Iter.{into_iter_items};
 ghost use Rattle.io_edges.specs.Gates.{LetsWorkers};
-ghost use Rattle.cluster_stream.specs.Workers.{most_stream_workers};
+ghost use Rattle.cluster_run.specs.stream.Workers.{most_stream_workers};
 ghost use Rattle.command_reply.specs.Statuses.{number_of};
 ghost use Rattle.command_reply.specs.declared.status.Status.TheVariants.{OutOfMemory};
 ghost use Rattle.ntb_top.specs.Arguments.{AreWanting, words_of};

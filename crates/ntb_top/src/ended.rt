@@ -3,7 +3,7 @@
 ghost use Rattle.std.specs.Prelude.{◌≡◌};
 ghost use Rattle.ntb_top.specs.Ends.{beside_of, nothing_beside};
 
-use cluster_stream::StreamRecord;
+use cluster_run::StreamRecord;
 use std::alloc::Global;
 use step_kinds::RunRecord;
 use table_lane::LaneProof;

@@ -2,7 +2,7 @@
 
 ghost use Rattle.std.specs.Prelude.{◌≡◌, Some, true};
 ghost use Rattle.io_edges.specs.Gates.{LetsWorkers};
-ghost use Rattle.cluster_stream.specs.Workers.{most_stream_workers};
+ghost use Rattle.cluster_run.specs.stream.Workers.{most_stream_workers};
 ghost use Rattle.command_reply.specs.Statuses.{number_of};
 ghost use Rattle.command_reply.specs.declared.status.Status.TheVariants.{Done};
 ghost use Rattle.stream_command.specs.Replies.{streamed_by};

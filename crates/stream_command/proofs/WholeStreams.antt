@@ -6,8 +6,8 @@ use Rattle.step_kinds.specs.declared.plan.PairPlan.{PairPlan}
 use Rattle.step_kinds.specs.declared.plan.Plan.{Plan}
 use Rattle.table_lane.specs.EndOfLane.{Shown}
 use Rattle.cluster_run.specs.Lanes.{traffic_lanes}
-use Rattle.cluster_stream.specs.Streams.{AreResumed, AreStreams, IsStream, StreamShown, stream_shown}
-use Rattle.cluster_stream.specs.declared.record.StreamRun.{StreamRun}
+use Rattle.cluster_run.specs.stream.Streams.{AreResumed, AreStreams, IsStream, StreamShown, stream_shown}
+use Rattle.cluster_run.specs.declared.stream.record.StreamRun.{StreamRun}
 use Rattle.stream_command.specs.Answers.{stream_on}
 use Rattle.stream_command.specs.Text.{lane_lines}
 

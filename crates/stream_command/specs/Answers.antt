@@ -1,7 +1,7 @@
 -- What `stream` answers to the bytes of a script, and what is true of it.
 use Rattle.std.specs.Prelude.{◌≡◌, ℕ, ◌+◌, Result, Ok, Err, Option, Some, None, List, [], map}
 use Rattle.cluster_run.specs.Lanes.{losses_on, traffic_lanes}
-use Rattle.cluster_stream.specs.Streams.{AreResumed, StreamShown}
+use Rattle.cluster_run.specs.stream.Streams.{AreResumed, StreamShown}
 use Rattle.command_reply.specs.Output.{Output, done, refused}
 use Rattle.script_text.specs.Script.{script_of}
 use Rattle.script_words.specs.declared.fault.ScriptFault.{ScriptFault}

@@ -1,6 +1,6 @@
 -- What comes with the text of a reply.
 use Rattle.std.specs.Prelude.{option_map}
-use Rattle.cluster_stream.specs.Streams.{streams_shown}
+use Rattle.cluster_run.specs.stream.Streams.{streams_shown}
 use Rattle.stream_command.specs.Answers.{Streamed}
 use Rattle.stream_command.specs.declared.command.StreamReply.{StreamReply}
 

@@ -4,7 +4,7 @@ use Rattle.std.specs.List.{flat_map}
 use Rattle.report_text.specs.Report.{end_line, stream_lines}
 use Rattle.step_kinds.specs.declared.plan.PairPlan.{PairPlan}
 use Rattle.step_kinds.specs.declared.plan.Plan.{Plan}
-use Rattle.cluster_stream.specs.Streams.{StreamShown}
+use Rattle.cluster_run.specs.stream.Streams.{StreamShown}
 
 abbrev pub lane_lines : List PairPlan → StreamShown → List ℕ
 lane_lines pairs lane = stream_lines pairs lane.name lane.items lane.sessions

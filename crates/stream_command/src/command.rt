@@ -5,12 +5,12 @@ ghost use Rattle.step_kinds.specs.Limits.{most_script_bytes};
 ghost use Rattle.io_edges.specs.Gates.{LetsWorkers};
 ghost use Rattle.plan_model.specs.TrafficPlans.{IsWhole};
 ghost use Rattle.script_plan.specs.Scripts.{plan_in};
-ghost use Rattle.cluster_stream.specs.Workers.{most_stream_workers};
+ghost use Rattle.cluster_run.specs.stream.Workers.{most_stream_workers};
 ghost use Rattle.stream_command.specs.Answers.{IsRefusal, IsStreamOf, IsStreamOfPlan};
 ghost use Rattle.stream_command.specs.Replies.{streamed_by};
 
 use crate::text::streams_text;
-use cluster_stream::{StreamRecord, run_stream};
+use cluster_run::{StreamRecord, run_stream};
 use command_reply::Reply;
 use io_edges::Gate;
 use script_plan::Script;

@@ -2,10 +2,10 @@
 
 ghost use Rattle.std.specs.Prelude.{◌≡◌, ◌++◌, ◌<◌, IfOk, OnOk, All, length};
 ghost use Rattle.std.specs.List.{flat_map};
-ghost use Rattle.cluster_stream.specs.Streams.{stream_shown, streams_shown};
+ghost use Rattle.cluster_run.specs.stream.Streams.{stream_shown, streams_shown};
 ghost use Rattle.stream_command.specs.Text.{lane_lines, streams_text};
 
-use cluster_stream::{StreamRecord, StreamRun};
+use cluster_run::{StreamRecord, StreamRun};
 use report_text::append::push_word;
 use report_text::push_stream;
 use std::alloc::{AllocError, Global};

@@ -1,6 +1,6 @@
 //! What the program answers to a command over a script, at a gate.
 
-ghost use Rattle.cluster_stream.specs.Workers.{most_stream_workers};
+ghost use Rattle.cluster_run.specs.stream.Workers.{most_stream_workers};
 ghost use Rattle.io_edges.specs.Gates.{LetsWorkers};
 
 use io_edges::{Gate, MemorySink, PlainSource};

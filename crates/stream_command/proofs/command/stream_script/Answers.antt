@@ -1,7 +1,7 @@
 use Rattle.std.proofs.Common.{refl, ◌∙◌, ap}
 use Rattle.command_reply.specs.Output.{done}
 use Rattle.cluster_run.proofs.Facade.{known_pairs}
-use Rattle.cluster_stream.specs.Streams.{StreamShown, stream_shown, streams_shown}
+use Rattle.cluster_run.specs.stream.Streams.{StreamShown, stream_shown, streams_shown}
 use Rattle.stream_command.proofs.WholeStreams.{resumed_on_steps, whole}
 use Rattle.stream_command.proofs.command.stream_script.Goals as goal
 

@@ -1,7 +1,7 @@
 -- The lines of the lanes before the index are in the text.
 use Rattle.std.proofs.Common.{◌≡◌, ◌++◌, take}
 use Rattle.std.specs.List.{flat_map}
-use Rattle.cluster_stream.specs.Streams.{stream_shown}
+use Rattle.cluster_run.specs.stream.Streams.{stream_shown}
 use Rattle.stream_command.specs.Text.{lane_lines}
 use Rattle.stream_command.proofs.text.push_streams.Given as goal
 

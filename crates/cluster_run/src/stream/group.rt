@@ -1,0 +1,72 @@
+//! Streams whose rings are open together, and their rounds.
+
+ghost use Rattle.std.specs.Prelude.{◌≡◌, ◌≤◌, ◌++◌, ◌∷◌, true, All, length, IfOk};
+ghost use Rattle.io_edges.specs.Gates.{LetsWorkers};
+ghost use Rattle.cluster_run.specs.LaneKeys.{keys_of};
+ghost use Rattle.cluster_run.specs.Lanes.{most_lanes};
+ghost use Rattle.cluster_run.specs.stream.Keys.{AreNumbered};
+ghost use Rattle.cluster_run.specs.stream.Workers.{most_stream_workers};
+
+use crate::rounds::finished;
+use crate::stream::lanes::StreamWork;
+use crate::tasks::LaneTask;
+use io_edges::Gate;
+use std::alloc::{AllocError, Global};
+use std::collections::VecDeque;
+use std::sync::Wait;
+use std::thread::Threads;
+
+/// The rings of the streams that are open together, two of each, have at most so many entries in all.
+const MOST_OPEN: u32 = 1_000_000;
+
+/// The two rings of a stream have at most so many.
+const MOST_ENTRIES: u32 = 131_070;
+
+/// Opens the stream `first` and those of the lanes that wait which may be open together with it, in order, where so
+/// many lanes have traffic. The only error is running out of memory.
+pub(crate) fn next_group(
+    alloc: Global,
+    lanes: u32,
+    first: LaneTask,
+    waiting: &mut VecDeque<LaneTask>,
+) -> Result<Vec<StreamWork>, AllocError>
+    requires { lanes ≤ most_lanes }
+    ensures keys { IfOk result (λ works. keys_of works.items ++ waiting.new.items ≡ first ∷ waiting.old.items) }
+    ensures numbers { IfOk result (λ works. AreNumbered lanes works.items) }
+    ensures fewer { length waiting.new.items ≤ length waiting.old.items }
+{
+    let mut entries = 2 * first.entries();
+    let mut works = vec![in alloc; StreamWork::new(alloc, lanes, first)?]?;
+    while entries <= MOST_OPEN - MOST_ENTRIES
+        && let Some(task) = waiting.pop_front()
+    {
+        entries += 2 * task.entries();
+        works.push(StreamWork::new(alloc, lanes, task)?)?;
+    }
+    Ok(works)
+}
+
+/// Rounds of the streams of a group, until all are over. What their work comes to stays. The only error is running out
+/// of memory.
+pub(crate) fn finished_group<R: Threads + Wait + Sync, G: Gate>(
+    rt: &R,
+    alloc: Global,
+    gate: &G,
+    works: Vec<StreamWork>,
+) -> Result<Vec<StreamWork>, AllocError>
+    requires { LetsWorkers (G.lets gate.now) most_stream_workers }
+    ensures keys { IfOk result (λ done. keys_of done.items ≡ keys_of works.items) }
+    ensures over { IfOk result (λ done. All (λ work. work.over ≡ true) done.items) }
+{
+    finished(
+        rt,
+        alloc,
+        works,
+        &|_, work: &mut StreamWork|
+            requires { LetsWorkers (G.lets gate.now) most_stream_workers }
+        { work.pass_in_threads(rt, gate) },
+        &|_, work: &mut StreamWork|
+            requires { LetsWorkers (G.lets gate.now) most_stream_workers }
+        { work.pass_in_turn(gate) },
+    )
+}

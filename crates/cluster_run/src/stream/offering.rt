@@ -1,0 +1,127 @@
+//! The passes of the worker that gives a stream's frames to its lane.
+
+ghost use Rattle.std.specs.Prelude.{◌≡◌, ◌+◌, ◌-◌, ◌≤◌, ◌<◌, ◌^◌};
+ghost use Rattle.lane_workers.specs.Passes.{LetsTurns};
+ghost use Rattle.cluster_run.specs.stream.Ends.{GoesOn, HasOffered};
+
+use io_edges::Gate;
+use resume_stream::StreamSender;
+use std::alloc::AllocError;
+use std::thread;
+use stream_laws::laws::next_follows;
+use table_lane::{SendAnswer, SendEnd};
+
+/// What came of a turn.
+#[derive(Clone, Copy, Debug, PartialEq, Eq)]
+pub(crate) enum Turn {
+    /// A frame was sent.
+    Sent,
+    /// The ring had no room: the frame was given back.
+    Refused,
+    /// Nothing is left to send, or the link was cut.
+    Over,
+}
+
+/// What a pass came to.
+#[derive(Clone, Copy, Debug, Drop)]
+pub(crate) struct Pass {
+    /// How many turns it made.
+    pub(crate) turns: u32,
+    /// How many frames it sent.
+    pub(crate) sent: u32,
+    /// What came of its last turn.
+    pub(crate) last: Turn,
+}
+
+/// After so many refused turns in a row a pass ends. After each it lets other threads run.
+const MOST_REFUSED: u32 = 64;
+
+// One turn: the stream's next frame is sent, or given back where the lane refuses it. The only error is running out of
+// memory.
+fn offer(sender: &mut StreamSender, end: &mut SendEnd) -> Result<Turn, AllocError>
+    requires { HasOffered sender.old end.old.part.sent }
+    ensures offered { HasOffered sender.new end.new.part.sent }
+    ensures stream { GoesOn sender.old sender.new }
+    ensures lane { end.new.lane ≡ end.old.lane }
+    ensures entries { end.new.part.entries ≡ end.old.part.entries }
+{
+    // What was given is what was sent.
+    next_follows();
+    let Some(frame) = sender.next_frame()? else {
+        return Ok(Turn::Over);
+    };
+    match end.send(frame) {
+        SendAnswer::Sent { .. } => Ok(Turn::Sent),
+        SendAnswer::NoRoom { frame, .. } => {
+            sender.give_back(frame);
+            Ok(Turn::Refused)
+        }
+        SendAnswer::Cut { frame } => {
+            sender.give_back(frame);
+            Ok(Turn::Over)
+        }
+    }
+}
+
+// How many turns in a row were refused, with one turn more.
+fn refused_after(refused: u32, turn: Turn) -> u32 {
+    match turn {
+        Turn::Sent => 0,
+        Turn::Refused => {
+            thread::yield_now();
+            refused.saturating_add(1)
+        }
+        Turn::Over => refused,
+    }
+}
+
+/// Makes at least 1 and at most so many turns. Before each it passes the gate with the turn's number, counted from
+/// `first`. It ends early where nothing is left to send, where the link was cut, or where the ring had no room for a
+/// while. The only error is running out of memory.
+pub(crate) fn offer_pass<G: Gate>(
+    sender: &mut StreamSender,
+    end: &mut SendEnd,
+    gate: &G,
+    worker: u32,
+    first: u64,
+    turns: u32,
+) -> Result<Pass, AllocError>
+    requires offered { HasOffered sender.old end.old.part.sent }
+    requires fits { first + turns < 2 ^ 64 }
+    requires gate { LetsTurns (G.lets gate.now) worker first turns }
+    ensures offered { HasOffered sender.new end.new.part.sent }
+    ensures stream { GoesOn sender.old sender.new }
+    ensures lane { end.new.lane ≡ end.old.lane }
+    ensures entries { end.new.part.entries ≡ end.old.part.entries }
+{
+    let mut pass = Pass {
+        turns: 0,
+        sent: 0,
+        last: Turn::Refused,
+    };
+    let mut refused = 0;
+    while pass.turns < turns && pass.last != Turn::Over && refused < MOST_REFUSED {
+        gate.at(worker, first + u64::from(pass.turns));
+        let turn = offer(sender, end)?;
+        refused = refused_after(refused, turn);
+        pass = pass.with(turn);
+    }
+    Ok(pass)
+}
+
+impl Pass {
+    // The pass with one turn more.
+    fn with(self, turn: Turn) -> Pass
+        requires { self.turns < 2 ^ 32 - 1 }
+        ensures { result.turns ≡ self.turns + 1 }
+    {
+        Pass {
+            turns: self.turns + 1,
+            sent: match turn {
+                Turn::Sent => self.sent.saturating_add(1),
+                Turn::Refused | Turn::Over => self.sent,
+            },
+            last: turn,
+        }
+    }
+}

@@ -1,0 +1,261 @@
+//! A session of a stream: the life of two table lanes, one for its items and one for its acknowledgements.
+
+ghost use Rattle.std.specs.Prelude.{◌≡◌, ◌≤◌, ◌<◌, ◌==◌, [], length, IfOk};
+ghost use Rattle.step_kinds.specs.Limits.{most_traffic_entries};
+ghost use Rattle.lane_workers.specs.Passes.{HaveBytes};
+ghost use Rattle.table_lane.specs.NewEnds.{AreNew};
+ghost use Rattle.cluster_run.specs.stream.LaneFields.{HaveNumbers};
+ghost use Rattle.cluster_run.specs.stream.Sessions.{CanBegin, EndsWith, new_session};
+ghost use Rattle.cluster_run.specs.stream.Workers.{LetsSession};
+
+use crate::stream::in_threads::{Aim, pass_in_threads};
+use crate::stream::in_turn::pass_in_turn;
+use crate::stream::numbers::LaneNumbers;
+use crate::stream::pair::{PairCutting, PairMoving};
+use crate::stream::sink::{Sink, SinkEnd};
+use crate::stream::source::{ACK_ROOM, Source, SourceEnd};
+use crate::workers::{Cutting, Moving, room_for};
+use io_edges::Gate;
+use resume_stream::{StreamReceiver, StreamSender};
+use std::alloc::{AllocError, Global};
+use std::marker::Model;
+use std::thread::Threads;
+use step_kinds::FrameList;
+use table_lane::{BackEnd, CutEnd, LaneProof, MoveEnd, RecvEnd, SendEnd, finish, make};
+
+/// A session of a stream: its workers, at two tables.
+#[derive(Drop)]
+pub(crate) struct Session {
+    source: Source,
+    moving: PairMoving,
+    sink: Sink,
+    cutting: PairCutting,
+    entries: u32,
+    total: usize,
+}
+
+/// What a session leaves.
+#[derive(Drop)]
+pub(crate) struct SessionEnd {
+    pub(crate) sender: StreamSender,
+    pub(crate) receiver: StreamReceiver,
+    /// The acknowledgements that came, in order.
+    pub(crate) acks: FrameList,
+    /// What the lane of items did.
+    pub(crate) item_proof: LaneProof,
+    /// What the lane of acknowledgements did.
+    pub(crate) ack_proof: LaneProof,
+}
+
+/// At most so many turns a pass has where one thread makes those of all workers in turn.
+const MOST_TURNS: usize = 1_024;
+
+// The ends of a lane.
+type LaneEnds = (SendEnd, MoveEnd, RecvEnd, BackEnd, CutEnd);
+
+// What a session takes memory for: a list with room for its acknowledgements, and two lanes. The only error is running
+// out of memory.
+fn new_lanes(alloc: Global, entries: u32) -> Result<(FrameList, LaneEnds, LaneEnds), AllocError>
+    requires { (2 ≤ entries) × (entries ≤ most_traffic_entries) }
+    ensures got { IfOk result (λ made. (made.0.frames ≡ []) × (made.0.spare ≡ ACK_ROOM)) }
+    ensures items { IfOk result (λ made. AreNew entries made.1.0 made.1.1 made.1.2 made.1.3 made.1.4) }
+    ensures acks { IfOk result (λ made. AreNew entries made.2.0 made.2.1 made.2.2 made.2.3 made.2.4) }
+{
+    let got = room_for(alloc, ACK_ROOM)?;
+    let items = make(alloc, entries)?;
+    let acks = make(alloc, entries)?;
+    Ok((got, items, acks))
+}
+
+impl Session {
+    /// A session of a stream in rings of so many entries: its lanes have these numbers. The only error is out of
+    /// memory.
+    pub(crate) fn new(
+        alloc: Global,
+        numbers: LaneNumbers,
+        entries: u32,
+        sender: StreamSender,
+        receiver: StreamReceiver,
+        total: usize,
+    ) -> Result<Session, AllocError>
+        requires numbers { HaveNumbers numbers }
+        requires ring { (2 ≤ entries) × (entries ≤ most_traffic_entries) }
+        requires ends { CanBegin sender receiver }
+        requires total { total ≡ length sender.items }
+        ensures { IfOk result (λ s. s ≡ new_session numbers entries sender receiver) }
+    {
+        let (got, items, acks) = new_lanes(alloc, entries)?;
+        let (item_send, item_mover, item_recv, item_back, item_cut) = items;
+        let (ack_send, ack_mover, ack_recv, ack_back, ack_cut) = acks;
+        let item_worker = 4 * numbers.items;
+        let ack_worker = 4 * numbers.acks;
+        let moving = PairMoving::new(
+            Moving::new(item_mover, item_back, item_worker + 1),
+            Moving::new(ack_mover, ack_back, ack_worker + 1),
+        );
+        let source = Source::new(sender, item_send, ack_recv, got, numbers);
+        let sink = Sink::new(receiver, item_recv, ack_send, numbers, total);
+        let cutting = PairCutting::new(
+            Cutting::new(item_cut, item_worker + 3),
+            Cutting::new(ack_cut, ack_worker + 3),
+        );
+        Ok(Session {
+            source,
+            moving,
+            sink,
+            cutting,
+            entries,
+            total,
+        })
+    }
+
+    /// A round of the session in which its workers have threads of their own.
+    pub(crate) fn pass_in_threads<R: Threads + Sync, G: Gate>(
+        &mut self,
+        rt: &R,
+        gate: &G,
+        cut_after: Option<usize>,
+    )
+        requires { LetsSession (G.lets gate.now) self.old.first }
+        ensures first { self.new.first ≡ self.old.first }
+        ensures key { self.new.key ≡ self.old.key }
+        ensures ever { self.old.ever ≤ self.new.ever }
+    {
+        let aim = self.aim(cut_after);
+        pass_in_threads(
+            rt,
+            gate,
+            &mut self.source,
+            &mut self.moving,
+            &mut self.sink,
+            &mut self.cutting,
+            aim,
+        );
+    }
+
+    /// A round of the session in which this thread makes the passes of all workers in turn.
+    pub(crate) fn pass_in_turn<G: Gate>(&mut self, gate: &G, cut_after: Option<usize>)
+        requires { LetsSession (G.lets gate.now) self.old.first }
+        ensures first { self.new.first ≡ self.old.first }
+        ensures key { self.new.key ≡ self.old.key }
+        ensures ever { self.old.ever ≤ self.new.ever }
+    {
+        let aim = self.aim(cut_after);
+        let turns = (self.entries - 1).min(self.total.clamp(1, MOST_TURNS) as u32);
+        pass_in_turn(
+            gate,
+            &mut self.source,
+            &mut self.moving,
+            &mut self.sink,
+            &mut self.cutting,
+            aim,
+            turns,
+        );
+    }
+
+    // What a round is to come to.
+    fn aim(&self, cut_after: Option<usize>) -> Aim {
+        Aim {
+            total: self.total,
+            cut_after,
+        }
+    }
+
+    /// How many items the stream has.
+    pub(crate) fn total(&self) -> usize
+        ensures { result ≡ length self.now.key.items }
+    {
+        self.total
+    }
+
+    /// How many items were kept as the session began.
+    pub(crate) fn begun(&self) -> usize {
+        self.sink.begun
+    }
+
+    /// How many items are kept.
+    pub(crate) fn kept(&self) -> usize
+        ensures { result ≡ self.now.kept }
+    {
+        self.sink.kept()
+    }
+
+    /// Whether the link was cut.
+    pub(crate) fn is_cut(&self) -> bool
+        ensures { result ≡ self.now.cut }
+    {
+        self.cutting.is_cut()
+    }
+
+    /// Whether there was no memory for a frame: the session can't end then.
+    pub(crate) fn is_wanting(&self) -> bool {
+        self.source.is_wanting || self.sink.is_wanting
+    }
+
+    /// Ends the session. The only error is running out of memory, which a worker may have met before.
+    pub(crate) fn ended(self) -> Result<SessionEnd, AllocError>
+        ensures { IfOk result (λ end. EndsWith self end) }
+    {
+        if self.source.is_wanting {
+            // One call drops all its fields: dropped at the return, each would be a step of this function's proof.
+            drop(self);
+            return Err(AllocError);
+        }
+        self.into_end()
+    }
+
+    // What the session leaves. The only error is running out of memory, which its sink may have met before.
+    fn into_end(self) -> Result<SessionEnd, AllocError>
+        ensures { IfOk result (λ end. EndsWith self end) }
+    {
+        let Session {
+            source,
+            moving,
+            sink,
+            cutting,
+            ..
+        } = self;
+        let SinkEnd {
+            receiver,
+            recv: item_recv,
+            send: ack_send,
+        } = match sink.ended() {
+            Ok(end) => end,
+            Err(error) => {
+                drop(source);
+                drop(moving);
+                drop(cutting);
+                return Err(error);
+            }
+        };
+        let SourceEnd {
+            sender,
+            send: item_send,
+            recv: ack_recv,
+            acks,
+        } = source.ended();
+        let (item_mover, item_back, ack_mover, ack_back) = moving.into_ends();
+        let (item_cut, ack_cut) = cutting.into_ends();
+        let items = finish(item_send, item_mover, item_recv, item_back, item_cut);
+        let acknowledged = finish(ack_send, ack_mover, ack_recv, ack_back, ack_cut);
+        Ok(SessionEnd {
+            sender,
+            receiver,
+            acks,
+            item_proof: items.proof,
+            ack_proof: acknowledged.proof,
+        })
+    }
+}
+
+impl Model for Session {
+    ghost use Rattle.cluster_run.specs.stream.Workers.{SessionState};
+
+    ghost Value = { SessionState };
+
+    ghost use Rattle.cluster_run.specs.stream.SessionFields.{session_of, IsSession};
+
+    ghost view = { session_of };
+
+    ghost invariant = { IsSession };
+}

@@ -1,0 +1,141 @@
+//! The worker that gives the items of a stream, and receives their acknowledgements.
+
+ghost use Rattle.std.specs.Prelude.{◌≡◌, ◌≤◌, []};
+ghost use Rattle.io_edges.specs.Gates.{LetsWorker};
+ghost use Rattle.cluster_run.specs.stream.Ends.{HasOffered};
+ghost use Rattle.cluster_run.specs.stream.LaneFields.{HaveNumbers};
+ghost use Rattle.cluster_run.specs.stream.Leaving.{LeavesSource};
+ghost use Rattle.cluster_run.specs.stream.Workers.{LetsBoth, after_first, first_workers};
+
+use crate::clock::Clock;
+use crate::stream::numbers::LaneNumbers;
+use crate::stream::offering::{Pass, Turn, offer_pass};
+use crate::workers::Receiving;
+use io_edges::Gate;
+use resume_stream::StreamSender;
+use std::alloc::AllocError;
+use std::marker::Model;
+use step_kinds::FrameList;
+use table_lane::{RecvEnd, SendEnd};
+
+/// The worker that gives the items of a stream, and receives their acknowledgements. What was acknowledged counts from
+/// the next session on.
+#[derive(Drop)]
+pub(crate) struct Source {
+    pub(crate) sender: StreamSender,
+    pub(crate) end: SendEnd,
+    pub(crate) acks: Receiving,
+    pub(crate) clock: Clock,
+    /// Whether there was no memory for a frame.
+    pub(crate) is_wanting: bool,
+}
+
+/// What a source leaves.
+#[derive(Drop)]
+pub(crate) struct SourceEnd {
+    pub(crate) sender: StreamSender,
+    /// Its end of the lane of items.
+    pub(crate) send: SendEnd,
+    /// Its end of the lane of acknowledgements.
+    pub(crate) recv: RecvEnd,
+    /// The acknowledgements that came, in order.
+    pub(crate) acks: FrameList,
+}
+
+/// At most so many acknowledgements come in a session.
+pub(crate) const ACK_ROOM: usize = 1_024;
+
+/// At most so many acknowledgements are received after a pass.
+const ACK_TURNS: u32 = 4;
+
+impl Source {
+    /// The source of a stream in a new session, by the numbers of its two lanes, with a list that has room for
+    /// `ACK_ROOM` acknowledgements. Nothing was sent or received.
+    pub(crate) fn new(
+        sender: StreamSender,
+        send: SendEnd,
+        recv: RecvEnd,
+        got: FrameList,
+        numbers: LaneNumbers,
+    ) -> Source
+        requires numbers { HaveNumbers numbers }
+        requires offered { HasOffered sender send.part.sent }
+        requires acked { sender.acked ≡ sender.start }
+        requires received { recv.part.got ≡ [] }
+        requires none { got.frames ≡ [] }
+        requires room { got.spare ≡ ACK_ROOM }
+        ensures { result ≡ record { key = record { workers = after_first (first_workers numbers) 0 2; lane = send.lane; ack_lane = recv.lane; entries = send.part.entries; items = sender.items; start = sender.start }; ever = sender.place.ever } }
+    {
+        Source {
+            sender,
+            end: send,
+            acks: Receiving::new(recv, got, ACK_ROOM, 4 * numbers.acks + 2),
+            clock: Clock::new(4 * numbers.items),
+            is_wanting: false,
+        }
+    }
+
+    /// Makes at most so many turns that give, and a few that receive. It answers how far the first came.
+    pub(crate) fn pass<G: Gate>(&mut self, gate: &G, turns: u32) -> Pass
+        requires some { 1 ≤ turns }
+        requires gate { LetsBoth (G.lets gate.now) self.old.key.workers }
+        ensures key { self.new.key ≡ self.old.key }
+        ensures ever { self.old.ever ≤ self.new.ever }
+    {
+        let pass = self.give(gate, turns);
+        self.acks.pass(gate, ACK_TURNS);
+        pass
+    }
+
+    // The turns that give.
+    fn give<G: Gate>(&mut self, gate: &G, turns: u32) -> Pass
+        requires some { 1 ≤ turns }
+        requires gate { LetsWorker (G.lets gate.now) self.old.key.workers.items }
+        ensures key { self.new.key ≡ self.old.key }
+        ensures ever { self.old.ever ≤ self.new.ever }
+    {
+        let first = self.clock.first(turns);
+        let worker = self.clock.worker();
+        match offer_pass(&mut self.sender, &mut self.end, gate, worker, first, turns) {
+            Ok(pass) => {
+                self.clock = self.clock.after(first, pass.turns);
+                pass
+            }
+            Err(AllocError) => {
+                self.is_wanting = true;
+                Pass {
+                    turns: 0,
+                    sent: 0,
+                    last: Turn::Over,
+                }
+            }
+        }
+    }
+}
+
+impl Source {
+    /// What it leaves at the end of a session.
+    pub(crate) fn ended(self) -> SourceEnd
+        ensures { LeavesSource self result }
+    {
+        let (recv, acks) = self.acks.into_parts();
+        SourceEnd {
+            sender: self.sender,
+            send: self.end,
+            recv,
+            acks,
+        }
+    }
+}
+
+impl Model for Source {
+    ghost use Rattle.cluster_run.specs.stream.Workers.{SourceShown};
+
+    ghost Value = { SourceShown };
+
+    ghost use Rattle.cluster_run.specs.stream.WorkerFields.{source_of, IsSource};
+
+    ghost view = { source_of };
+
+    ghost invariant = { IsSource };
+}

@@ -1,6 +1,0 @@
-use Rattle.std.proofs.Common.{sym, ◌∙◌}
-use Rattle.cluster_stream.proofs.NextFrame.{number_has_byte}
-use Rattle.cluster_stream.proofs.keeping.acknowledge.Goals as goal
-
-pub send-requires-clause-byte : goal.send-requires-clause-byte
-send-requires-clause-byte c none = number_has_byte _ (sym c.in_ok-frame.ensures ∙ none)
