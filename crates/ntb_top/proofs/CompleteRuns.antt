@@ -3,6 +3,7 @@ use Rattle.std.proofs.Common.{◌≡◌, ◌∙◌, ℕ, ◌+◌, ◌≤◌, Boo
 use Rattle.std.proofs.lemmas.Bool.{le-ltb, false≢true}
 use Rattle.std.proofs.lemmas.List.{length-append}
 use Rattle.check_command.specs.Answers.{checked}
+use Rattle.cluster_run.specs.stream.Streams.{StreamShown}
 use Rattle.command_reply.specs.Output.{Output, done, too_long}
 use Rattle.explore_command.specs.Answers.{ExploresTo}
 use Rattle.io_edges.specs.Whole.{HasGiven, HoldsAll}
@@ -10,13 +11,14 @@ use Rattle.reads_command.specs.Answers.{output_of}
 use Rattle.replay_command.specs.Answers.{replayed}
 use Rattle.replay_command.specs.Replays.{load_text, replay_text}
 use Rattle.trace_command.specs.Answers.{traced}
-use Rattle.run_command.specs.Answers.{Carried, IsRunOfScript}
 use Rattle.script_text.specs.Script.{declared_by, script_of}
 use Rattle.script_words.specs.Before.{Before}
 use Rattle.script_words.specs.declared.fault.ScriptFault.{ScriptFault}
 use Rattle.step_kinds.specs.Limits.{most_script_bytes}
+use Rattle.step_kinds.specs.Runs.{LaneShown}
 use Rattle.step_kinds.specs.declared.plan.Plan.{Plan}
-use Rattle.stream_command.specs.Answers.{IsStreamOfScript, Streamed}
+use Rattle.traffic_command.specs.Answers.{IsRunOfScript, IsStreamOfScript}
+use Rattle.traffic_command.specs.Traffic.{Carried}
 use Rattle.ntb_top.specs.Answers.{IsAnswerTo, IsReplyOf}
 use Rattle.ntb_top.specs.Commands.{command_of, command_reads, is_reading}
 use Rattle.ntb_top.specs.Completeness.{IsHonest, LoadsComplete, ReplaysComplete, RunsComplete}
@@ -46,11 +48,11 @@ explore_status (Ok plan) output (inl all) = of_output output _ all.answer (λ e.
 explore_status (Ok plan) output (inr many) = of_output output _ many.answer (λ e. absurd (omega (arith, e)), λ e. absurd (omega (arith, e)))
 explore_status (Err fault) output h = of_output output _ h (λ e. absurd (omega (arith, e)), λ e. absurd (omega (arith, e)))
 
-run_status : (read : Result Plan ScriptFault) (output : Output) (carried : Carried) → IsRunOfScript read output carried → HasReply output.status
+run_status : (read : Result Plan ScriptFault) (output : Output) (carried : Carried (List LaneShown)) → IsRunOfScript read output carried → HasReply output.status
 run_status (Ok plan) output carried h = of_output output _ h.text (λ e. absurd (omega (arith, e)), λ e. absurd (omega (arith, e)))
 run_status (Err fault) output carried h = of_output output _ h.0 (λ e. absurd (omega (arith, e)), λ e. absurd (omega (arith, e)))
 
-stream_status : (read : Result Plan ScriptFault) (output : Output) (streamed : Streamed) → IsStreamOfScript read output streamed → HasReply output.status
+stream_status : (read : Result Plan ScriptFault) (output : Output) (streamed : Carried (List StreamShown)) → IsStreamOfScript read output streamed → HasReply output.status
 stream_status (Ok plan) output streamed h = of_output output _ h.text (λ e. absurd (omega (arith, e)), λ e. absurd (omega (arith, e)))
 stream_status (Err fault) output streamed h = of_output output _ h.0 (λ e. absurd (omega (arith, e)), λ e. absurd (omega (arith, e)))
 

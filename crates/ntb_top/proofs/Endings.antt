@@ -5,12 +5,14 @@ use Rattle.step_kinds.specs.Limits.{most_script_bytes}
 use Rattle.step_kinds.specs.declared.plan.Plan.{Plan}
 use Rattle.command_reply.specs.Output.{Output, too_long}
 use Rattle.io_edges.specs.Whole.{HoldsAll}
-use Rattle.run_command.specs.Answers.{Carried, IsRunOf, IsRunOfScript, nothing_carried}
-use Rattle.stream_command.specs.Answers.{IsStreamOf, IsStreamOfScript, Streamed, nothing_streamed}
-use Rattle.stream_command.specs.Replies.{streamed_by}
-use Rattle.stream_command.specs.declared.command.StreamReply.{StreamReply}
-use Rattle.run_command.specs.Replies.{carried_by}
-use Rattle.run_command.specs.declared.command.RunReply.{RunReply}
+use Rattle.cluster_run.specs.declared.stream.record.StreamRecord.{StreamRecord}
+use Rattle.cluster_run.specs.stream.Streams.{StreamShown}
+use Rattle.step_kinds.specs.Runs.{LaneShown}
+use Rattle.step_kinds.specs.declared.runs.RunRecord.{RunRecord}
+use Rattle.traffic_command.specs.Answers.{IsRunOf, IsRunOfScript, IsStreamOf, IsStreamOfScript}
+use Rattle.traffic_command.specs.Replies.{carried_by, streamed_by}
+use Rattle.traffic_command.specs.Traffic.{Carried, nothing_carried}
+use Rattle.traffic_command.specs.declared.reply.TrafficReply.{TrafficReply}
 use Rattle.script_text.specs.Script.{script_of}
 use Rattle.script_words.specs.declared.fault.ScriptFault.{ScriptFault}
 use Rattle.ntb_top.proofs.RunOutcomes.{run_answered, run_nothing, sink_of, source_of}
@@ -38,11 +40,11 @@ read_on before after bytes value reply read =
     }
 
 -- the reply, with what comes beside it, of a command to what was read
-abbrev pub HasRunReply : Given → Given → Result RunReply Stop → Type 0
-HasRunReply before after result = HasReplied true (λ bytes (run : RunReply). IsRunAnswerTo bytes run.reply (carried_by run)) before after result
+abbrev pub HasRunReply : Given → Given → Result (TrafficReply RunRecord) Stop → Type 0
+HasRunReply before after result = HasReplied true (λ bytes (run : TrafficReply RunRecord). IsRunAnswerTo bytes run.reply (carried_by run)) before after result
 
-abbrev pub HasStreamReply : Given → Given → Result StreamReply Stop → Type 0
-HasStreamReply before after result = HasReplied true (λ bytes (streams : StreamReply). IsStreamAnswerTo bytes streams.reply (streamed_by streams)) before after result
+abbrev pub HasStreamReply : Given → Given → Result (TrafficReply StreamRecord) Stop → Type 0
+HasStreamReply before after result = HasReplied true (λ bytes (streams : TrafficReply StreamRecord). IsStreamAnswerTo bytes streams.reply (streamed_by streams)) before after result
 
 -- it is an answer of the command, whatever comes with it
 as_answer : {C : Type 0} (nothing : C) (IsOf : List ℕ → Output → C → Type 0) (long : Bool) (bytes : List ℕ) (output : Output) (carried : C) →
@@ -51,7 +53,7 @@ as_answer : {C : Type 0} (nothing : C) (IsOf : List ℕ → Output → C → Typ
 as_answer nothing IsOf true bytes output carried answer = answer.0
 as_answer nothing IsOf false bytes output carried answer = (carried, answer)
 
-abbrev run_told : (before after : Given) (run : RunReply) → HasRunReply before after (Ok run) → HasReplied true (IsAnswerTo (Some Run)) before after (Ok run.reply)
+abbrev run_told : (before after : Given) (run : TrafficReply RunRecord) → HasRunReply before after (Ok run) → HasReplied true (IsAnswerTo (Some Run)) before after (Ok run.reply)
 run_told before after run replied =
     record {
       bytes = replied.bytes;
@@ -59,12 +61,12 @@ run_told before after run replied =
       answers = as_answer nothing_carried IsRunOf (nat_lt most_script_bytes (length replied.bytes)) replied.bytes run.reply (carried_by run) replied.answers;
     }
 
-abbrev streams_told : (before after : Given) (streams : StreamReply) → HasStreamReply before after (Ok streams) → HasReplied true (IsAnswerTo (Some Stream)) before after (Ok streams.reply)
+abbrev streams_told : (before after : Given) (streams : TrafficReply StreamRecord) → HasStreamReply before after (Ok streams) → HasReplied true (IsAnswerTo (Some Stream)) before after (Ok streams.reply)
 streams_told before after streams replied =
     record {
       bytes = replied.bytes;
       read = read_on before after replied.bytes streams streams.reply replied.read;
-      answers = as_answer nothing_streamed IsStreamOf (nat_lt most_script_bytes (length replied.bytes)) replied.bytes streams.reply (streamed_by streams) replied.answers;
+      answers = as_answer nothing_carried IsStreamOf (nat_lt most_script_bytes (length replied.bytes)) replied.bytes streams.reply (streamed_by streams) replied.answers;
     }
 
 -- with status 0 the input wasn't too long
@@ -75,7 +77,7 @@ not_long nothing IsOf true bytes output carried answer zero =
 not_long nothing IsOf false bytes output carried answer zero = answer
 
 -- an answer with status 0 is the text of a record of the plan that the bytes declare
-true_run : (bytes : List ℕ) (before after : Outside) (output : Output) (carried : Carried) (read : Result Plan ScriptFault) → script_of bytes ≡ read →
+true_run : (bytes : List ℕ) (before after : Outside) (output : Output) (carried : Carried (List LaneShown)) (read : Result Plan ScriptFault) → script_of bytes ≡ read →
     IsRunOfScript read output carried → output.status ≡ 0 → HoldsAll before.held after.held output.text → IsTrueRun bytes before after (beside_run carried)
 true_run bytes before after output carried (Ok plan) is answer zero text =
     record {
@@ -91,7 +93,7 @@ true_run bytes before after output carried (Ok plan) is answer zero text =
 true_run bytes before after output carried (Err fault) is answer zero text =
     absurd (subst (λ (output : Output). output.status ≡ 0 → ⊥) (sym answer.0) (λ zero. omega arith) zero)
 
-true_stream : (bytes : List ℕ) (before after : Outside) (output : Output) (streamed : Streamed) (read : Result Plan ScriptFault) → script_of bytes ≡ read →
+true_stream : (bytes : List ℕ) (before after : Outside) (output : Output) (streamed : Carried (List StreamShown)) (read : Result Plan ScriptFault) → script_of bytes ≡ read →
     IsStreamOfScript read output streamed → output.status ≡ 0 → HoldsAll before.held after.held output.text → IsTrueStream bytes before after (beside_stream streamed)
 true_stream bytes before after output streamed (Ok plan) is answer zero text =
     record {
@@ -108,7 +110,7 @@ true_stream bytes before after output streamed (Err fault) is answer zero text =
     absurd (subst (λ (output : Output). output.status ≡ 0 → ⊥) (sym answer.0) (λ zero. omega arith) zero)
 
 -- a run that has its reply, whether all of the text is written or a part
-pub run_ended : (before after : Outside) (run : RunReply) (status : ℕ) (beside : Beside) → HasRunReply (source_of before) (source_of after) (Ok run) →
+pub run_ended : (before after : Outside) (run : TrafficReply RunRecord) (status : ℕ) (beside : Beside) → HasRunReply (source_of before) (source_of after) (Ok run) →
     HasWritten (sink_of before) (sink_of after) run.reply status → (status ≡ 0 → beside ≡ beside_run (carried_by run)) → ((status ≡ 0 → ⊥) → beside ≡ nothing_beside) →
     HasEnded (Some Run) before after status beside
 unfolding run_answered
@@ -129,7 +131,7 @@ run_ended before after run status beside replied written told alone =
     }
 
 -- the same of streams
-pub streams_ended : (before after : Outside) (streams : StreamReply) (status : ℕ) (beside : Beside) → HasStreamReply (source_of before) (source_of after) (Ok streams) →
+pub streams_ended : (before after : Outside) (streams : TrafficReply StreamRecord) (status : ℕ) (beside : Beside) → HasStreamReply (source_of before) (source_of after) (Ok streams) →
     HasWritten (sink_of before) (sink_of after) streams.reply status → (status ≡ 0 → beside ≡ beside_stream (streamed_by streams)) → ((status ≡ 0 → ⊥) → beside ≡ nothing_beside) →
     HasEnded (Some Stream) before after status beside
 unfolding run_answered
@@ -143,7 +145,7 @@ streams_ended before after streams status beside replied written told alone =
                 let ended = sym w.status_is ∙ zero in
                 subst (λ (beside : Beside). IsTrueStream replied.bytes before after beside) (sym (told zero))
                 (true_stream replied.bytes before after streams.reply (streamed_by streams) (script_of replied.bytes) refl
-                (not_long nothing_streamed IsStreamOf (nat_lt most_script_bytes (length replied.bytes)) replied.bytes streams.reply (streamed_by streams) replied.answers ended) ended w.text)
+                (not_long nothing_carried IsStreamOf (nat_lt most_script_bytes (length replied.bytes)) replied.bytes streams.reply (streamed_by streams) replied.answers ended) ended w.text)
             | inr w ↦ absurd (omega (arith, zero, w.status_is))
           ];
       alone = λ _ other. alone (λ zero. other refl zero);

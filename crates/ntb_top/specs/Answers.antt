@@ -1,14 +1,16 @@
 -- What answers a command, given the bytes that were read: the outputs that it may answer, each with what is true of it.
 use Rattle.std.specs.Prelude.{◌≡◌, ℕ, Option, Some, None, List, length, nat_lt, MatchBool}
 use Rattle.step_kinds.specs.Limits.{most_script_bytes}
+use Rattle.step_kinds.specs.Runs.{LaneShown}
 use Rattle.check_command.specs.Answers.{IsCheckOf}
+use Rattle.cluster_run.specs.stream.Streams.{StreamShown}
 use Rattle.command_reply.specs.Output.{Output, too_long, usage}
 use Rattle.explore_command.specs.Answers.{IsExploreOf}
 use Rattle.replay_command.specs.Answers.{IsLoadOf, IsReplayOf}
 use Rattle.reads_command.specs.Answers.{IsReadsOf}
-use Rattle.run_command.specs.Answers.{Carried, IsRunOf, nothing_carried}
 use Rattle.trace_command.specs.Answers.{IsTraceOf}
-use Rattle.stream_command.specs.Answers.{IsStreamOf, Streamed, nothing_streamed}
+use Rattle.traffic_command.specs.Answers.{IsRunOf, IsStreamOf}
+use Rattle.traffic_command.specs.Traffic.{Carried, nothing_carried}
 use Rattle.ntb_top.specs.declared.command.Command.{Command}
 use Rattle.ntb_top.specs.declared.command.Command.TheVariants.{Check, Explore, Load, Reads, Replay, Run, Stream, Trace}
 
@@ -17,8 +19,8 @@ use Rattle.ntb_top.specs.declared.command.Command.TheVariants.{Check, Explore, L
 abbrev pub IsReplyOf : Command → List ℕ → Output → Type 0
 IsReplyOf Replay bytes output = IsReplayOf bytes output
 IsReplyOf (Load seed frames) bytes output = IsLoadOf seed frames output
-IsReplyOf Run bytes output = (carried : Carried) × IsRunOf bytes output carried
-IsReplyOf Stream bytes output = (streamed : Streamed) × IsStreamOf bytes output streamed
+IsReplyOf Run bytes output = (carried : Carried (List LaneShown)) × IsRunOf bytes output carried
+IsReplyOf Stream bytes output = (streamed : Carried (List StreamShown)) × IsStreamOf bytes output streamed
 IsReplyOf Reads bytes output = IsReadsOf bytes output
 IsReplyOf Trace bytes output = IsTraceOf bytes output
 IsReplyOf Check bytes output = IsCheckOf bytes output
@@ -34,8 +36,8 @@ abbrev pub IsAnswerWith : {C : Type 0} → C → (List ℕ → Output → C → 
 IsAnswerWith nothing IsOf bytes output carried =
     MatchBool (nat_lt most_script_bytes (length bytes)) ((output ≡ too_long) × (carried ≡ nothing)) (IsOf bytes output carried)
 
-abbrev pub IsRunAnswerTo : List ℕ → Output → Carried → Type 0
+abbrev pub IsRunAnswerTo : List ℕ → Output → Carried (List LaneShown) → Type 0
 IsRunAnswerTo bytes output carried = IsAnswerWith nothing_carried IsRunOf bytes output carried
 
-abbrev pub IsStreamAnswerTo : List ℕ → Output → Streamed → Type 0
-IsStreamAnswerTo bytes output streamed = IsAnswerWith nothing_streamed IsStreamOf bytes output streamed
+abbrev pub IsStreamAnswerTo : List ℕ → Output → Carried (List StreamShown) → Type 0
+IsStreamAnswerTo bytes output streamed = IsAnswerWith nothing_carried IsStreamOf bytes output streamed

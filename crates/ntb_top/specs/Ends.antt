@@ -7,13 +7,13 @@ use Rattle.command_reply.specs.Statuses.{number_of}
 use Rattle.command_reply.specs.declared.status.Status.TheVariants.{Done}
 use Rattle.io_edges.specs.Whole.{HoldsAll}
 use Rattle.report_text.specs.Report.{record_of}
-use Rattle.run_command.specs.Answers.{Carried}
 use Rattle.script_text.specs.Script.{script_of}
 use Rattle.step_kinds.specs.Runs.{LaneShown, run_shown}
 use Rattle.step_kinds.specs.declared.plan.Plan.{Plan}
-use Rattle.stream_command.specs.Answers.{Streamed, stream_on}
-use Rattle.stream_command.specs.Text.{streams_text}
 use Rattle.table_lane.specs.EndOfLane.{Shown}
+use Rattle.traffic_command.specs.Answers.{stream_on}
+use Rattle.traffic_command.specs.Text.{streams_text}
+use Rattle.traffic_command.specs.Traffic.{Carried}
 use Rattle.ntb_top.specs.Answers.{IsAnswerTo}
 use Rattle.ntb_top.specs.Commands.{is_reading}
 use Rattle.ntb_top.specs.Runs.{HasAnswered, Outside}
@@ -31,11 +31,11 @@ abbrev pub beside_of : Ended → Beside
 beside_of ended = record { runs = option_map run_shown ended.runs; streams = option_map streams_shown ended.streams; proofs = ended.proofs.items }
 
 -- what comes with a text of `run`, and of `stream`
-abbrev pub beside_run : Carried → Beside
-beside_run carried = record { runs = carried.run; streams = None; proofs = carried.proofs }
+abbrev pub beside_run : Carried (List LaneShown) → Beside
+beside_run carried = record { runs = carried.recorded; streams = None; proofs = carried.proofs }
 
-abbrev pub beside_stream : Streamed → Beside
-beside_stream streamed = record { runs = None; streams = streamed.streams; proofs = streamed.proofs }
+abbrev pub beside_stream : Carried (List StreamShown) → Beside
+beside_stream streamed = record { runs = None; streams = streamed.recorded; proofs = streamed.proofs }
 
 abbrev pub nothing_beside : Beside
 nothing_beside = record { runs = None; streams = None; proofs = [] }

@@ -6,7 +6,7 @@ ghost use Rattle.io_edges.specs.Gates.{LetsWorkers};
 ghost use Rattle.cluster_run.specs.stream.Workers.{most_stream_workers};
 ghost use Rattle.command_reply.specs.Statuses.{number_of};
 ghost use Rattle.command_reply.specs.declared.status.Status.TheVariants.{Done};
-ghost use Rattle.run_command.specs.Replies.{carried_by};
+ghost use Rattle.traffic_command.specs.Replies.{carried_by};
 ghost use Rattle.ntb_top.specs.Answers.{IsRunAnswerTo};
 ghost use Rattle.ntb_top.specs.Commands.{command_of as command_by_words};
 ghost use Rattle.ntb_top.specs.Ends.{HasEnded, beside_of, beside_run, nothing_beside};
@@ -18,12 +18,13 @@ use crate::ended::Ended;
 use crate::input::{Input, Stop, read_input};
 use crate::plain::{plain_program, write_reply};
 use crate::streams::stream_traffic;
-use command_reply::{Reply, Status};
+use command_reply::Status;
 use io_edges::{Gate, Sink, Source};
-use run_command::{RunReply, run_reply};
 use std::alloc::Global;
 use std::sync::Wait;
 use std::thread::Threads;
+use step_kinds::RunRecord;
+use traffic_command::{TrafficReply, run_reply};
 
 /// Does all that the program does, and answers the exit status. It reads its input from the source where the words are
 /// a command that reads, and writes one text to the sink. Each read but the last gives a byte, and each write but a
@@ -121,7 +122,7 @@ fn run_of_input<R: Threads + Wait + Sync, S: Source, G: Gate>(
     alloc: Global,
     source: &mut S,
     gate: &G,
-) -> Result<RunReply, Stop>
+) -> Result<TrafficReply<RunRecord>, Stop>
     requires { LetsWorkers (G.lets gate.now) most_stream_workers }
     ensures { HasReplied true (λ bytes run. IsRunAnswerTo bytes run.reply (carried_by run))
         (record { left = S.left source.old; faults = S.faults source.old; reads = S.reads source.old })
@@ -129,31 +130,27 @@ fn run_of_input<R: Threads + Wait + Sync, S: Source, G: Gate>(
 {
     match read_input(alloc, true, source)? {
         Input::Whole(bytes) => Ok(run_reply(rt, alloc, &bytes, gate)?),
-        Input::TooLong => Ok(RunReply {
-            reply: Reply::too_long(),
-            runs: None,
-            proofs: Vec::new(alloc),
-        }),
+        Input::TooLong => Ok(TrafficReply::too_long(alloc)),
     }
 }
 
 // Writes the reply of `run`. The record and the proofs are answered where the text was written whole and tells of them.
-fn written<K: Sink>(alloc: Global, sink: &mut K, run: RunReply) -> Ended
+fn written<K: Sink>(alloc: Global, sink: &mut K, run: TrafficReply<RunRecord>) -> Ended
     ensures text { HasWritten (record { held = K.held sink.old; faults = K.faults sink.old; writes = K.writes sink.old })
         (record { held = K.held sink.new; faults = K.faults sink.new; writes = K.writes sink.new }) run.reply result.status }
     ensures told { result.status ≡ number_of Done → beside_of result ≡ beside_run (carried_by run) }
     ensures alone { (result.status ≡ number_of Done → ⊥) → beside_of result ≡ nothing_beside }
 {
-    let RunReply {
+    let TrafficReply {
         reply,
-        runs,
+        recorded,
         proofs,
     } = run;
     let status = write_reply(sink, &reply);
     if status == Status::Done.number() {
         return Ended {
             status,
-            runs,
+            runs: recorded,
             streams: None,
             proofs,
         };

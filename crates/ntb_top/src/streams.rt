@@ -5,7 +5,7 @@ ghost use Rattle.io_edges.specs.Gates.{LetsWorkers};
 ghost use Rattle.cluster_run.specs.stream.Workers.{most_stream_workers};
 ghost use Rattle.command_reply.specs.Statuses.{number_of};
 ghost use Rattle.command_reply.specs.declared.status.Status.TheVariants.{Done};
-ghost use Rattle.stream_command.specs.Replies.{streamed_by};
+ghost use Rattle.traffic_command.specs.Replies.{streamed_by};
 ghost use Rattle.ntb_top.specs.Answers.{IsStreamAnswerTo};
 ghost use Rattle.ntb_top.specs.Ends.{HasEnded, beside_of, beside_stream, nothing_beside};
 ghost use Rattle.ntb_top.specs.Inputs.{HasReplied, HasWritten};
@@ -14,12 +14,13 @@ ghost use Rattle.ntb_top.specs.declared.command.Command.TheVariants.{Stream};
 use crate::ended::Ended;
 use crate::input::{Input, Stop, read_input};
 use crate::plain::write_reply;
-use command_reply::{Reply, Status};
+use cluster_run::StreamRecord;
+use command_reply::Status;
 use io_edges::{Gate, Sink, Source};
 use std::alloc::Global;
 use std::sync::Wait;
 use std::thread::Threads;
-use stream_command::{StreamReply, stream_reply};
+use traffic_command::{TrafficReply, stream_reply};
 
 /// The program on the word `stream`.
 pub(crate) fn stream_traffic<R: Threads + Wait + Sync, S: Source, K: Sink, G: Gate>(
@@ -62,7 +63,7 @@ fn streams_of_input<R: Threads + Wait + Sync, S: Source, G: Gate>(
     alloc: Global,
     source: &mut S,
     gate: &G,
-) -> Result<StreamReply, Stop>
+) -> Result<TrafficReply<StreamRecord>, Stop>
     requires { LetsWorkers (G.lets gate.now) most_stream_workers }
     ensures { HasReplied true (λ bytes streams. IsStreamAnswerTo bytes streams.reply (streamed_by streams))
         (record { left = S.left source.old; faults = S.faults source.old; reads = S.reads source.old })
@@ -70,25 +71,25 @@ fn streams_of_input<R: Threads + Wait + Sync, S: Source, G: Gate>(
 {
     match read_input(alloc, true, source)? {
         Input::Whole(bytes) => Ok(stream_reply(rt, alloc, &bytes, gate)?),
-        Input::TooLong => Ok(StreamReply {
-            reply: Reply::too_long(),
-            streams: None,
-            proofs: Vec::new(alloc),
-        }),
+        Input::TooLong => Ok(TrafficReply::too_long(alloc)),
     }
 }
 
 // Writes the reply of `stream`. The record and the proofs are answered where the text was written whole and tells of
 // them.
-fn streams_written<K: Sink>(alloc: Global, sink: &mut K, streams: StreamReply) -> Ended
+fn streams_written<K: Sink>(
+    alloc: Global,
+    sink: &mut K,
+    streams: TrafficReply<StreamRecord>,
+) -> Ended
     ensures text { HasWritten (record { held = K.held sink.old; faults = K.faults sink.old; writes = K.writes sink.old })
         (record { held = K.held sink.new; faults = K.faults sink.new; writes = K.writes sink.new }) streams.reply result.status }
     ensures told { result.status ≡ number_of Done → beside_of result ≡ beside_stream (streamed_by streams) }
     ensures alone { (result.status ≡ number_of Done → ⊥) → beside_of result ≡ nothing_beside }
 {
-    let StreamReply {
+    let TrafficReply {
         reply,
-        streams,
+        recorded,
         proofs,
     } = streams;
     let status = write_reply(sink, &reply);
@@ -96,7 +97,7 @@ fn streams_written<K: Sink>(alloc: Global, sink: &mut K, streams: StreamReply) -
         return Ended {
             status,
             runs: None,
-            streams,
+            streams: recorded,
             proofs,
         };
     }
