@@ -19,12 +19,15 @@ use Rattle.step_kinds.specs.Runs.{LaneShown}
 use Rattle.step_kinds.specs.declared.plan.Plan.{Plan}
 use Rattle.traffic_command.specs.Answers.{IsRunOfScript, IsStreamOfScript}
 use Rattle.traffic_command.specs.Traffic.{Carried}
+use Rattle.ntb_top.proofs.RunOutcomes.{answered_as}
 use Rattle.ntb_top.specs.Answers.{IsAnswerTo, IsReplyOf}
-use Rattle.ntb_top.specs.Commands.{command_of, command_reads, is_reading}
+use Rattle.ntb_top.specs.Commands.{command_of, command_reads}
 use Rattle.ntb_top.specs.Completeness.{IsHonest, LoadsComplete, ReplaysComplete, RunsComplete}
 use Rattle.ntb_top.specs.Runs.{EndsWhole, HasAnswered, HasReply, IsAtEnd, Outside}
 use Rattle.ntb_top.specs.declared.command.Command.{Command}
-use Rattle.ntb_top.specs.declared.command.Command.TheVariants.{Check, Explore, Load, Reads, Replay, Run, Stream, Trace}
+use Rattle.ntb_top.specs.declared.command.Command.TheVariants.{Plain, Threaded}
+use Rattle.ntb_top.specs.declared.command.PlainCommand.TheVariants.{Check, Explore, Load, Reads, Replay, Trace}
+use Rattle.ntb_top.specs.declared.command.ThreadedCommand.TheVariants.{Run, Stream}
 
 -- No reply has the status of a failed read, or of out of memory
 
@@ -61,14 +64,14 @@ reads_status (Ok text) = (λ e. absurd (omega (arith, e)), λ e. absurd (omega (
 reads_status (Err line) = (λ e. absurd (omega (arith, e)), λ e. absurd (omega (arith, e)))
 
 reply_status : (command : Command) (bytes : List ℕ) (output : Output) → command_reads command ≡ true → IsReplyOf command bytes output → HasReply output.status
-reply_status Replay bytes output reads h = of_output output _ h.answer (replay_status (script_of bytes))
-reply_status (Load seed frames) bytes output reads h = absurd (false≢true reads)
-reply_status Run bytes output reads h = run_status (script_of bytes) output h.0 h.1
-reply_status Stream bytes output reads h = stream_status (script_of bytes) output h.0 h.1
-reply_status Reads bytes output reads h = of_output output _ h.answer (reads_status _)
-reply_status Trace bytes output reads h = of_output output _ h.answer (trace_status (script_of bytes))
-reply_status Check bytes output reads h = of_output output _ h.answer (check_status (declared_by bytes))
-reply_status Explore bytes output reads h = explore_status (script_of bytes) output h
+reply_status (Plain Replay) bytes output reads h = of_output output _ h.answer (replay_status (script_of bytes))
+reply_status (Plain (Load seed frames)) bytes output reads h = absurd (false≢true reads)
+reply_status (Threaded Run) bytes output reads h = run_status (script_of bytes) output h.0 h.1
+reply_status (Threaded Stream) bytes output reads h = stream_status (script_of bytes) output h.0 h.1
+reply_status (Plain Reads) bytes output reads h = of_output output _ h.answer (reads_status _)
+reply_status (Plain Trace) bytes output reads h = of_output output _ h.answer (trace_status (script_of bytes))
+reply_status (Plain Check) bytes output reads h = of_output output _ h.answer (check_status (declared_by bytes))
+reply_status (Plain Explore) bytes output reads h = explore_status (script_of bytes) output h
 
 -- what was taken is the front of what the source told
 taken_from : (left left' : Option (List ℕ)) (content bytes : List ℕ) → left ≡ Some content → HasGiven left left' bytes → (rest : List ℕ) × (content ≡ bytes ++ rest) × (left' ≡ Some rest)
@@ -102,15 +105,10 @@ runs_complete command before after status content reads honest run = elim run.en
   ]
 ]
 
--- the run of a command's words
-of_words : (command : Command) (said : Option Command) (before after : Outside) (status : ℕ) → HasAnswered (is_reading said) (IsAnswerTo said) before after status → said ≡ Some command →
-    HasAnswered (command_reads command) (IsAnswerTo (Some command)) before after status
-of_words command said before after status run is = subst (λ (c : Option Command). HasAnswered (is_reading c) (IsAnswerTo c) before after status) is run
-
 -- Where source and sink don't fail, `replay` of a faultless script writes its whole report, or is out of memory.
 pub replays_complete : ReplaysComplete
 replays_complete words before after status content plan replay honest declares run =
-    elim (runs_complete Replay before after status content refl honest (of_words Replay (command_of words) before after status run replay)) [
+    elim (runs_complete (Plain Replay) before after status content refl honest (answered_as (command_of words) (Some (Plain Replay)) before after status replay run)) [
       | inl whole ↦
           let answer : whole.output ≡ done (replay_text plan) = whole.answers.answer ∙ ap replayed declares in
           inl (whole.status_is ∙ ap (λ (o : Output). o.status) answer, subst (λ (o : Output). HoldsAll before.held after.held o.text) answer whole.text)
@@ -118,17 +116,17 @@ replays_complete words before after status content plan replay honest declares r
     ]
 
 -- a load that read nothing has written its summary
-load_written : (seed frames : ℕ) (bytes : List ℕ) (before after : Outside) (status : ℕ) → bytes ≡ [] → EndsWhole (IsAnswerTo (Some (Load seed frames)) bytes) before after status →
+load_written : (seed frames : ℕ) (bytes : List ℕ) (before after : Outside) (status : ℕ) → bytes ≡ [] → EndsWhole (IsAnswerTo (Some (Plain (Load seed frames))) bytes) before after status →
     (status ≡ 0) × HoldsAll before.held after.held (load_text seed frames)
 load_written seed frames bytes before after status none whole =
-    let reply : IsReplyOf (Load seed frames) [] whole.output = subst (λ (read : List ℕ). IsAnswerTo (Some (Load seed frames)) read whole.output) none whole.answers in
+    let reply : IsReplyOf (Plain (Load seed frames)) [] whole.output = subst (λ (read : List ℕ). IsAnswerTo (Some (Plain (Load seed frames))) read whole.output) none whole.answers in
     let answer : whole.output ≡ done (load_text seed frames) = reply.answer in
     (whole.status_is ∙ ap (λ (o : Output). o.status) answer, subst (λ (o : Output). HoldsAll before.held after.held o.text) answer whole.text)
 
 -- Where the sink doesn't fail, `load` writes its summary, or is out of memory.
 pub loads_complete : LoadsComplete
 loads_complete words before after status seed frames load calm said =
-    let run = of_words (Load seed frames) (command_of words) before after status said load in
+    let run = answered_as (command_of words) (Some (Plain (Load seed frames))) before after status load said in
     elim run.ends [
       | inl whole ↦ inl (load_written seed frames run.bytes before after status (run.unread refl).0 whole)
       | inr others ↦ elim others [

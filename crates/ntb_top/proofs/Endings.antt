@@ -1,6 +1,6 @@
 -- What `run` and `stream` come to, with the record and the proofs that they answer, and what all other words come to.
-use Rattle.std.proofs.Common.{◌≡◌, ◌∙◌, ℕ, Bool, true, false, Option, Some, Result, Ok, Err, List, length, nat_lt, inl, inr, refl, sym, subst, arith}
-use Rattle.std.specs.Prelude.{MatchBool}
+use Rattle.std.proofs.Common.{◌≡◌, ◌∙◌, ℕ, Bool, true, false, Option, Some, None, Result, Ok, Err, List, length, nat_lt, inl, inr, refl, sym, subst, arith}
+use Rattle.std.specs.Prelude.{MatchBool, option_map}
 use Rattle.step_kinds.specs.Limits.{most_script_bytes}
 use Rattle.step_kinds.specs.declared.plan.Plan.{Plan}
 use Rattle.command_reply.specs.Output.{Output, too_long}
@@ -17,12 +17,14 @@ use Rattle.script_text.specs.Script.{script_of}
 use Rattle.script_words.specs.declared.fault.ScriptFault.{ScriptFault}
 use Rattle.ntb_top.proofs.RunOutcomes.{run_answered, run_nothing, sink_of, source_of}
 use Rattle.ntb_top.specs.Answers.{IsAnswerTo, IsRunAnswerTo, IsStreamAnswerTo}
-use Rattle.ntb_top.specs.Commands.{is_reading}
+use Rattle.ntb_top.specs.Commands.{command_reads, is_reading}
 use Rattle.ntb_top.specs.Ends.{Beside, HasEnded, IsTrueRun, IsTrueStream, beside_run, beside_stream, nothing_beside}
 use Rattle.ntb_top.specs.Inputs.{Given, HasRead, HasReplied, HasWritten}
 use Rattle.ntb_top.specs.Runs.{HasAnswered, Outside}
 use Rattle.ntb_top.specs.declared.command.Command.{Command}
-use Rattle.ntb_top.specs.declared.command.Command.TheVariants.{Run, Stream}
+use Rattle.ntb_top.specs.declared.command.Command.TheVariants.{Plain, Threaded}
+use Rattle.ntb_top.specs.declared.command.PlainCommand.{PlainCommand}
+use Rattle.ntb_top.specs.declared.command.ThreadedCommand.TheVariants.{Run, Stream}
 use Rattle.ntb_top.specs.declared.input.Stop.{Stop}
 use Rattle.ntb_top.specs.declared.input.Stop.TheVariants.{SourceFailed}
 
@@ -53,7 +55,7 @@ as_answer : {C : Type 0} (nothing : C) (IsOf : List ℕ → Output → C → Typ
 as_answer nothing IsOf true bytes output carried answer = answer.0
 as_answer nothing IsOf false bytes output carried answer = (carried, answer)
 
-abbrev run_told : (before after : Given) (run : TrafficReply RunRecord) → HasRunReply before after (Ok run) → HasReplied true (IsAnswerTo (Some Run)) before after (Ok run.reply)
+abbrev run_told : (before after : Given) (run : TrafficReply RunRecord) → HasRunReply before after (Ok run) → HasReplied true (IsAnswerTo (Some (Threaded Run))) before after (Ok run.reply)
 run_told before after run replied =
     record {
       bytes = replied.bytes;
@@ -61,7 +63,7 @@ run_told before after run replied =
       answers = as_answer nothing_carried IsRunOf (nat_lt most_script_bytes (length replied.bytes)) replied.bytes run.reply (carried_by run) replied.answers;
     }
 
-abbrev streams_told : (before after : Given) (streams : TrafficReply StreamRecord) → HasStreamReply before after (Ok streams) → HasReplied true (IsAnswerTo (Some Stream)) before after (Ok streams.reply)
+abbrev streams_told : (before after : Given) (streams : TrafficReply StreamRecord) → HasStreamReply before after (Ok streams) → HasReplied true (IsAnswerTo (Some (Threaded Stream))) before after (Ok streams.reply)
 streams_told before after streams replied =
     record {
       bytes = replied.bytes;
@@ -112,11 +114,11 @@ true_stream bytes before after output streamed (Err fault) is answer zero text =
 -- a run that has its reply, whether all of the text is written or a part
 pub run_ended : (before after : Outside) (run : TrafficReply RunRecord) (status : ℕ) (beside : Beside) → HasRunReply (source_of before) (source_of after) (Ok run) →
     HasWritten (sink_of before) (sink_of after) run.reply status → (status ≡ 0 → beside ≡ beside_run (carried_by run)) → ((status ≡ 0 → ⊥) → beside ≡ nothing_beside) →
-    HasEnded (Some Run) before after status beside
+    HasEnded (Some (Threaded Run)) before after status beside
 unfolding run_answered
 run_ended before after run status beside replied written told alone =
     record {
-      run = run_answered true (IsAnswerTo (Some Run)) before after run.reply status (run_told (source_of before) (source_of after) run replied) written;
+      run = run_answered true (IsAnswerTo (Some (Threaded Run))) before after run.reply status (run_told (source_of before) (source_of after) run replied) written;
       headline = λ _ zero.
           elim written [
             | inl w ↦
@@ -126,19 +128,19 @@ run_ended before after run status beside replied written told alone =
                 (not_long nothing_carried IsRunOf (nat_lt most_script_bytes (length replied.bytes)) replied.bytes run.reply (carried_by run) replied.answers ended) ended w.text)
             | inr w ↦ absurd (omega (arith, zero, w.status_is))
           ];
-      streams = λ (is : Some Run ≡ Some Stream) zero. cc;
+      streams = λ (is : Some (Threaded Run) ≡ Some (Threaded Stream)) zero. cc;
       alone = λ other _. alone (λ zero. other refl zero);
     }
 
 -- the same of streams
 pub streams_ended : (before after : Outside) (streams : TrafficReply StreamRecord) (status : ℕ) (beside : Beside) → HasStreamReply (source_of before) (source_of after) (Ok streams) →
     HasWritten (sink_of before) (sink_of after) streams.reply status → (status ≡ 0 → beside ≡ beside_stream (streamed_by streams)) → ((status ≡ 0 → ⊥) → beside ≡ nothing_beside) →
-    HasEnded (Some Stream) before after status beside
+    HasEnded (Some (Threaded Stream)) before after status beside
 unfolding run_answered
 streams_ended before after streams status beside replied written told alone =
     record {
-      run = run_answered true (IsAnswerTo (Some Stream)) before after streams.reply status (streams_told (source_of before) (source_of after) streams replied) written;
-      headline = λ (is : Some Stream ≡ Some Run) zero. cc;
+      run = run_answered true (IsAnswerTo (Some (Threaded Stream))) before after streams.reply status (streams_told (source_of before) (source_of after) streams replied) written;
+      headline = λ (is : Some (Threaded Stream) ≡ Some (Threaded Run)) zero. cc;
       streams = λ _ zero.
           elim written [
             | inl w ↦
@@ -149,6 +151,25 @@ streams_ended before after streams status beside replied written told alone =
             | inr w ↦ absurd (omega (arith, zero, w.status_is))
           ];
       alone = λ _ other. alone (λ zero. other refl zero);
+    }
+
+-- a command that takes no thread, or words that are no command, with nothing beside the status
+pub plain_ended : (command : Option PlainCommand) (before after : Outside) (status said : ℕ) (beside : Beside)
+    → HasAnswered (is_reading (option_map Plain command)) (IsAnswerTo (option_map Plain command)) before after said → status ≡ said → beside ≡ nothing_beside
+    → HasEnded (option_map Plain command) before after status beside
+plain_ended None before after status said beside run is none =
+    record {
+      run = subst (λ status. HasAnswered false (IsAnswerTo None) before after status) (sym is) run;
+      headline = λ (other : None ≡ Some (Threaded Run)) zero. cc;
+      streams = λ (other : None ≡ Some (Threaded Stream)) zero. cc;
+      alone = λ _ _. none;
+    }
+plain_ended (Some command) before after status said beside run is none =
+    record {
+      run = subst (λ status. HasAnswered (command_reads (Plain command)) (IsAnswerTo (Some (Plain command))) before after status) (sym is) run;
+      headline = λ (other : Some (Plain command) ≡ Some (Threaded Run)) zero. cc;
+      streams = λ (other : Some (Plain command) ≡ Some (Threaded Stream)) zero. cc;
+      alone = λ _ _. none;
     }
 
 -- there was no memory before anything was done

@@ -1,7 +1,7 @@
 -- What a run comes to, by what reading, the reply and writing come to. All of it holds for any command and any relation
 -- between bytes and outputs.
-use Rattle.std.proofs.Common.{◌≡◌, ◌∙◌, ℕ, ◌+◌, ◌<◌, ◌≤◌, Bool, true, Option, Some, None, Result, Ok, Err, List, [], IfSome, length, take, drop, replicate, inl, inr, refl, sym, arith}
-use Rattle.std.specs.Prelude.{IsErrOf}
+use Rattle.std.proofs.Common.{◌≡◌, ◌∙◌, ℕ, ◌+◌, ◌<◌, ◌≤◌, Bool, true, Option, Some, None, Result, Ok, Err, List, [], IfSome, length, take, drop, replicate, inl, inr, refl, sym, subst, arith}
+use Rattle.std.specs.Prelude.{IsErrOf, option_map}
 use Rattle.std.proofs.lemmas.Bool.{true≢false}
 use Rattle.std.proofs.lemmas.List.{length-replicate, length-take-le, take-append-drop}
 use Rattle.step_kinds.specs.Limits.{most_script_bytes}
@@ -9,8 +9,12 @@ use Rattle.command_reply.specs.Output.{Output}
 use Rattle.io_edges.specs.Whole.{HasGiven, HasGivenAtMost}
 use Rattle.io_edges.specs.declared.whole.ReadError.{ReadError}
 use Rattle.io_edges.specs.declared.whole.ReadError.TheVariants.{ReadFault, TooLong as ReadTooLong}
+use Rattle.ntb_top.specs.Answers.{IsAnswerTo}
+use Rattle.ntb_top.specs.Commands.{IsPlain, is_reading, plain_part}
 use Rattle.ntb_top.specs.Inputs.{Given, HasInput, HasReplied, HasWritten, Held}
 use Rattle.ntb_top.specs.Runs.{HasAnswered, Outside}
+use Rattle.ntb_top.specs.declared.command.Command.{Command}
+use Rattle.ntb_top.specs.declared.command.Command.TheVariants.{Plain, Threaded}
 use Rattle.ntb_top.specs.declared.input.Input.TheVariants.{TooLong}
 use Rattle.ntb_top.specs.declared.input.Stop.TheVariants.{SourceFailed}
 
@@ -97,6 +101,17 @@ run_answered reading IsAnswer before after output status replied written =
         | inr w ↦ absurd (omega (arith, zero, w.status_is))
       ];
     }
+
+-- what came of a command came of words that are this command
+pub answered_as : (command said : Option Command) (before after : Outside) (status : ℕ) → command ≡ said → HasAnswered (is_reading command) (IsAnswerTo command) before after status →
+    HasAnswered (is_reading said) (IsAnswerTo said) before after status
+answered_as command said before after status is run = subst (λ (c : Option Command). HasAnswered (is_reading c) (IsAnswerTo c) before after status) is run
+
+-- words that are plain are their plain part
+pub plain_stays : (command : Option Command) → IsPlain command → option_map Plain (plain_part command) ≡ command
+plain_stays (Some (Plain command)) plain = refl
+plain_stays (Some (Threaded command)) plain = absurd plain
+plain_stays None plain = refl
 
 -- there was no memory before anything was done
 pub run_nothing : (reading : Bool) (IsAnswer : List ℕ → Output → Type 0) (outside : Outside) → HasAnswered reading IsAnswer outside outside 6

@@ -12,19 +12,21 @@ use Rattle.trace_command.specs.Answers.{IsTraceOf}
 use Rattle.traffic_command.specs.Answers.{IsRunOf, IsStreamOf}
 use Rattle.traffic_command.specs.Traffic.{Carried, nothing_carried}
 use Rattle.ntb_top.specs.declared.command.Command.{Command}
-use Rattle.ntb_top.specs.declared.command.Command.TheVariants.{Check, Explore, Load, Reads, Replay, Run, Stream, Trace}
+use Rattle.ntb_top.specs.declared.command.Command.TheVariants.{Plain, Threaded}
+use Rattle.ntb_top.specs.declared.command.PlainCommand.TheVariants.{Check, Explore, Load, Reads, Replay, Trace}
+use Rattle.ntb_top.specs.declared.command.ThreadedCommand.TheVariants.{Run, Stream}
 
 -- A case for each command: a relation, since several texts of `run` are right. What comes with a text of `run` and of
 -- `stream` is said in `Ends`.
 abbrev pub IsReplyOf : Command → List ℕ → Output → Type 0
-IsReplyOf Replay bytes output = IsReplayOf bytes output
-IsReplyOf (Load seed frames) bytes output = IsLoadOf seed frames output
-IsReplyOf Run bytes output = (carried : Carried (List LaneShown)) × IsRunOf bytes output carried
-IsReplyOf Stream bytes output = (streamed : Carried (List StreamShown)) × IsStreamOf bytes output streamed
-IsReplyOf Reads bytes output = IsReadsOf bytes output
-IsReplyOf Trace bytes output = IsTraceOf bytes output
-IsReplyOf Check bytes output = IsCheckOf bytes output
-IsReplyOf Explore bytes output = IsExploreOf bytes output
+IsReplyOf (Plain Replay) bytes output = IsReplayOf bytes output
+IsReplyOf (Plain (Load seed frames)) bytes output = IsLoadOf seed frames output
+IsReplyOf (Threaded Run) bytes output = (carried : Carried (List LaneShown)) × IsRunOf bytes output carried
+IsReplyOf (Threaded Stream) bytes output = (streamed : Carried (List StreamShown)) × IsStreamOf bytes output streamed
+IsReplyOf (Plain Reads) bytes output = IsReadsOf bytes output
+IsReplyOf (Plain Trace) bytes output = IsTraceOf bytes output
+IsReplyOf (Plain Check) bytes output = IsCheckOf bytes output
+IsReplyOf (Plain Explore) bytes output = IsExploreOf bytes output
 
 -- `usage` where the words are no command, `too long` where too many bytes were read, else what the command answers
 abbrev pub IsAnswerTo : Option Command → List ℕ → Output → Type 0

@@ -1,11 +1,14 @@
 -- The words of a command line, and the command that they are.
-use Rattle.std.specs.Prelude.{◌≡◌, ℕ, ◌^◌, ◌≤◌, ◌&&◌, Bool, true, false, Option, Some, None, List, [], ◌∷◌, codes, nat_le, nat_lt, if◌then◌else◌}
+use Rattle.std.specs.Prelude.{ℕ, ◌^◌, ◌≤◌, ◌&&◌, Bool, true, false, Option, Some, None, List, [], ◌∷◌, codes, nat_le, nat_lt, if◌then◌else◌}
 use Rattle.std.specs.List.{list_all}
 use Rattle.std.specs.Str.{bytes_eq}
 use Rattle.script_words.specs.Words.{is_digit, is_plain, value_from}
 use Rattle.traffic_plan.specs.Load.{most_load_frames}
 use Rattle.ntb_top.specs.declared.command.Command.{Command}
-use Rattle.ntb_top.specs.declared.command.Command.TheVariants.{Replay, Load, Run, Stream, Reads, Trace, Check, Explore}
+use Rattle.ntb_top.specs.declared.command.Command.TheVariants.{Plain, Threaded}
+use Rattle.ntb_top.specs.declared.command.PlainCommand.{PlainCommand}
+use Rattle.ntb_top.specs.declared.command.PlainCommand.TheVariants.{Replay, Load, Reads, Trace, Check, Explore}
+use Rattle.ntb_top.specs.declared.command.ThreadedCommand.TheVariants.{Run, Stream}
 
 -- the number below a limit that a word spells: decimal digits without a leading zero but for zero itself
 abbrev pub number_below : ℕ → List ℕ → Option ℕ
@@ -13,19 +16,19 @@ number_below limit word = if list_all is_digit word && (is_plain word && nat_lt 
 
 -- a generated load has a seed below 2^64, and 1 to 30,000 frames
 abbrev pub load_command : Option ℕ → Option ℕ → Option Command
-load_command (Some seed) (Some frames) = if nat_lt 0 frames && nat_le frames most_load_frames then Some (Load seed frames) else None
+load_command (Some seed) (Some frames) = if nat_lt 0 frames && nat_le frames most_load_frames then Some (Plain (Load seed frames)) else None
 load_command seed frames = None
 
 -- a command of one word
 abbrev pub lone_command : List ℕ → Option Command
 lone_command word =
-    if bytes_eq word (codes "replay") then Some Replay
-    else if bytes_eq word (codes "run") then Some Run
-    else if bytes_eq word (codes "stream") then Some Stream
-    else if bytes_eq word (codes "reads") then Some Reads
-    else if bytes_eq word (codes "trace") then Some Trace
-    else if bytes_eq word (codes "check") then Some Check
-    else if bytes_eq word (codes "explore") then Some Explore
+    if bytes_eq word (codes "replay") then Some (Plain Replay)
+    else if bytes_eq word (codes "run") then Some (Threaded Run)
+    else if bytes_eq word (codes "stream") then Some (Threaded Stream)
+    else if bytes_eq word (codes "reads") then Some (Plain Reads)
+    else if bytes_eq word (codes "trace") then Some (Plain Trace)
+    else if bytes_eq word (codes "check") then Some (Plain Check)
+    else if bytes_eq word (codes "explore") then Some (Plain Explore)
     else None
 
 -- `replay`, `trace`, `check`, `explore`, `run`, `stream`, `reads`, or `load SEED FRAMES`
@@ -34,25 +37,25 @@ command_of (word ∷ []) = lone_command word
 command_of (word ∷ seed ∷ frames ∷ []) = if bytes_eq word (codes "load") then load_command (number_below (2 ^ 64) seed) (number_below (2 ^ 32) frames) else None
 command_of words = None
 
--- words that are no command, or a command that no thread makes
+-- the command, where it takes no thread
+abbrev pub plain_part : Option Command → Option PlainCommand
+plain_part (Some (Plain command)) = Some command
+plain_part command = None
+
+-- words that are no command, or one that takes no thread
 abbrev pub IsPlain : Option Command → Type 0
-IsPlain command = (command ≡ Some Run → ⊥) × (command ≡ Some Stream → ⊥)
+IsPlain (Some (Threaded command)) = ⊥
+IsPlain command = Unit {0}
 
 -- the numbers of a command are in their ranges, where it has any
 abbrev pub IsInRange : Command → Type 0
-IsInRange (Load seed frames) = (1 ≤ frames) × (frames ≤ most_load_frames)
+IsInRange (Plain (Load seed frames)) = (1 ≤ frames) × (frames ≤ most_load_frames)
 IsInRange command = Unit {0}
 
 -- whether a command reads its source
 abbrev pub command_reads : Command → Bool
-command_reads Replay = true
-command_reads (Load seed frames) = false
-command_reads Run = true
-command_reads Stream = true
-command_reads Reads = true
-command_reads Trace = true
-command_reads Check = true
-command_reads Explore = true
+command_reads (Plain (Load seed frames)) = false
+command_reads command = true
 
 -- whether words are a command that reads
 abbrev pub is_reading : Option Command → Bool

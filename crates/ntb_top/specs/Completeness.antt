@@ -12,7 +12,8 @@ use Rattle.ntb_top.specs.Answers.{IsAnswerTo, IsReplyOf}
 use Rattle.ntb_top.specs.Commands.{command_of, command_reads}
 use Rattle.ntb_top.specs.Runs.{EndsWanting, EndsWhole, HasAnswered, HasRun, Outside}
 use Rattle.ntb_top.specs.declared.command.Command.{Command}
-use Rattle.ntb_top.specs.declared.command.Command.TheVariants.{Load, Replay}
+use Rattle.ntb_top.specs.declared.command.Command.TheVariants.{Plain}
+use Rattle.ntb_top.specs.declared.command.PlainCommand.TheVariants.{Load, Replay}
 
 -- The source tells its bytes, which are few enough for a script, and no count of faults rose.
 pub record IsHonest (before after : Outside) (content : List ℕ) : Type 0 where
@@ -30,11 +31,11 @@ RunsComplete =
 -- so `replay` of a script without a fault ends with status 0 and its report, or with 6 and nothing
 abbrev pub ReplaysComplete : Type 0
 ReplaysComplete =
-    (words : List (List ℕ)) (before after : Outside) (status : ℕ) (content : List ℕ) (plan : Plan) → command_of words ≡ Some Replay → IsHonest before after content → script_of content ≡ Ok plan →
+    (words : List (List ℕ)) (before after : Outside) (status : ℕ) (content : List ℕ) (plan : Plan) → command_of words ≡ Some (Plain Replay) → IsHonest before after content → script_of content ≡ Ok plan →
     HasRun words before after status → ((status ≡ number_of Done) × HoldsAll before.held after.held (replay_text plan)) ⊎ EndsWanting before after status
 
 -- `load` over a sink that doesn't fail ends with status 0 and its summary, or with 6 and nothing
 abbrev pub LoadsComplete : Type 0
 LoadsComplete =
-    (words : List (List ℕ)) (before after : Outside) (status seed frames : ℕ) → command_of words ≡ Some (Load seed frames) → (Rose before.write_faults after.write_faults → ⊥) →
+    (words : List (List ℕ)) (before after : Outside) (status seed frames : ℕ) → command_of words ≡ Some (Plain (Load seed frames)) → (Rose before.write_faults after.write_faults → ⊥) →
     HasRun words before after status → ((status ≡ number_of Done) × HoldsAll before.held after.held (load_text seed frames)) ⊎ EndsWanting before after status

@@ -18,7 +18,8 @@ use Rattle.ntb_top.specs.Answers.{IsAnswerTo}
 use Rattle.ntb_top.specs.Commands.{is_reading}
 use Rattle.ntb_top.specs.Runs.{HasAnswered, Outside}
 use Rattle.ntb_top.specs.declared.command.Command.{Command}
-use Rattle.ntb_top.specs.declared.command.Command.TheVariants.{Run, Stream}
+use Rattle.ntb_top.specs.declared.command.Command.TheVariants.{Threaded}
+use Rattle.ntb_top.specs.declared.command.ThreadedCommand.TheVariants.{Run, Stream}
 use Rattle.ntb_top.specs.declared.ended.Ended.{Ended}
 
 -- what is answered beside the status: the record of a run, that of streams, and the proofs of either
@@ -69,8 +70,8 @@ pub record HasEnded (command : Option Command) (before after : Outside) (status 
   -- what was taken and written, and the status: as of any command
   pub run : HasAnswered (is_reading command) (IsAnswerTo command) before after status
   -- `run` with status 0 answers the record whose text it wrote, and its proofs
-  pub headline : command ≡ Some Run → status ≡ number_of Done → IsTrueRun run.bytes before after beside
+  pub headline : command ≡ Some (Threaded Run) → status ≡ number_of Done → IsTrueRun run.bytes before after beside
   -- and so does `stream`
-  pub streams : command ≡ Some Stream → status ≡ number_of Done → IsTrueStream run.bytes before after beside
+  pub streams : command ≡ Some (Threaded Stream) → status ≡ number_of Done → IsTrueStream run.bytes before after beside
   -- in every other case there is neither record nor proof
-  pub alone : (command ≡ Some Run → status ≡ number_of Done → ⊥) → (command ≡ Some Stream → status ≡ number_of Done → ⊥) → beside ≡ nothing_beside
+  pub alone : (command ≡ Some (Threaded Run) → status ≡ number_of Done → ⊥) → (command ≡ Some (Threaded Stream) → status ≡ number_of Done → ⊥) → beside ≡ nothing_beside

@@ -1,10 +1,11 @@
 //! The words of a command line.
 
-ghost use Rattle.std.specs.Prelude.{◌≡◌, ◌&&◌, ◌^◌, Some, None, IfSome, if◌then◌else◌, map, nat_lt};
+ghost use Rattle.std.specs.Prelude.{◌≡◌, ◌&&◌, ◌^◌, Some, None, IfSome, if◌then◌else◌, map, nat_lt, option_map};
 ghost use Rattle.std.specs.List.{list_all};
 ghost use Rattle.std.specs.String.{string_bytes};
 ghost use Rattle.script_words.specs.Words.{is_digit, value_from};
-ghost use Rattle.ntb_top.specs.Commands.{IsInRange, command_of as command_by_words, command_reads, load_command, lone_command as lone_command_by_word, number_below};
+ghost use Rattle.ntb_top.specs.Commands.{IsInRange, command_of as command_by_words, command_reads, load_command, lone_command as lone_command_by_word, number_below, plain_part};
+ghost use Rattle.ntb_top.specs.declared.command.Command.TheVariants.{Plain};
 
 use script_words::words::read_number;
 
@@ -14,6 +15,15 @@ const MOST_LOAD_FRAMES: u32 = 30_000;
 /// What the program is asked to do.
 #[derive(Clone, Copy, Debug, PartialEq, Eq)]
 pub enum Command {
+    /// One that takes no thread.
+    Plain(PlainCommand),
+    /// One that threads do.
+    Threaded(ThreadedCommand),
+}
+
+/// What the program is asked to do without threads.
+#[derive(Clone, Copy, Debug, PartialEq, Eq)]
+pub enum PlainCommand {
     /// To read a script, make its steps and write the report.
     Replay,
     /// To replay a generated plan and write one line of summary.
@@ -23,10 +33,6 @@ pub enum Command {
         /// How many frames are sent, 1 to 30,000.
         frames: u32,
     },
-    /// To read a script, send its traffic by threads and write what became of it.
-    Run,
-    /// To read a script, send its traffic by threads as resumable streams and write what they brought.
-    Stream,
     /// To read a text of writes and reads across a bridge, make its steps and write their answers.
     Reads,
     /// To read a script, make its steps and write a line of JSON for each, with the writes that it concerns.
@@ -37,22 +43,29 @@ pub enum Command {
     Explore,
 }
 
-impl Command {
+impl PlainCommand {
     /// Whether the command reads its source.
     pub fn reads(self) -> bool
-        ensures { result ≡ command_reads self }
+        ensures { result ≡ command_reads (Plain self) }
     {
         match self {
-            Command::Replay
-            | Command::Run
-            | Command::Stream
-            | Command::Reads
-            | Command::Trace
-            | Command::Check
-            | Command::Explore => true,
-            Command::Load { .. } => false,
+            PlainCommand::Replay
+            | PlainCommand::Reads
+            | PlainCommand::Trace
+            | PlainCommand::Check
+            | PlainCommand::Explore => true,
+            PlainCommand::Load { .. } => false,
         }
     }
+}
+
+/// What the program is asked to do by threads.
+#[derive(Clone, Copy, Debug, PartialEq, Eq)]
+pub enum ThreadedCommand {
+    /// To read a script, send its traffic by threads and write what became of it.
+    Run,
+    /// To read a script, send its traffic by threads as resumable streams and write what they brought.
+    Stream,
 }
 
 /// The command that the words of a command line are: `replay`, `trace`, `check`, `explore`, `run`, `stream`,
@@ -70,25 +83,36 @@ pub fn command_of(words: &[String]) -> Option<Command>
     }
 }
 
+/// The command without threads that the words of a command line are, if they are one.
+pub fn plain_of(words: &[String]) -> Option<PlainCommand>
+    ensures words { result ≡ plain_part (command_by_words (map string_bytes words.now)) }
+    ensures range { IfSome (option_map Plain result) IsInRange }
+{
+    match command_of(words)? {
+        Command::Plain(command) => Some(command),
+        Command::Threaded(_) => None,
+    }
+}
+
 // The command of one word that a word is.
 fn lone_command(word: &[u8]) -> Option<Command>
     ensures words { result ≡ lone_command_by_word word.now }
     ensures range { IfSome result IsInRange }
 {
     if word == b"replay".as_slice() {
-        Some(Command::Replay)
+        Some(Command::Plain(PlainCommand::Replay))
     } else if word == b"run".as_slice() {
-        Some(Command::Run)
+        Some(Command::Threaded(ThreadedCommand::Run))
     } else if word == b"stream".as_slice() {
-        Some(Command::Stream)
+        Some(Command::Threaded(ThreadedCommand::Stream))
     } else if word == b"reads".as_slice() {
-        Some(Command::Reads)
+        Some(Command::Plain(PlainCommand::Reads))
     } else if word == b"trace".as_slice() {
-        Some(Command::Trace)
+        Some(Command::Plain(PlainCommand::Trace))
     } else if word == b"check".as_slice() {
-        Some(Command::Check)
+        Some(Command::Plain(PlainCommand::Check))
     } else if word == b"explore".as_slice() {
-        Some(Command::Explore)
+        Some(Command::Plain(PlainCommand::Explore))
     } else {
         None
     }
@@ -102,7 +126,7 @@ fn load_of(seed: &[u8], frames: &[u8]) -> Option<Command>
     let seed = seed_of(seed)?;
     let frames = read_number(frames).ok()?;
     if frames > 0 && frames <= MOST_LOAD_FRAMES {
-        Some(Command::Load { seed, frames })
+        Some(Command::Plain(PlainCommand::Load { seed, frames }))
     } else {
         None
     }

@@ -1,14 +1,15 @@
 //! The program on all words but those of `run` and of `stream`.
 
-ghost use Rattle.std.specs.Prelude.{◌≤◌, IfOk, length, map};
+ghost use Rattle.std.specs.Prelude.{◌≤◌, IfOk, IfSome, length, map, option_map};
 ghost use Rattle.std.specs.String.{string_bytes};
 ghost use Rattle.step_kinds.specs.Limits.{most_script_bytes};
 ghost use Rattle.ntb_top.specs.Answers.{IsAnswerTo, IsReplyOf};
-ghost use Rattle.ntb_top.specs.Commands.{IsInRange, IsPlain, command_of as command_by_words, reads_script};
+ghost use Rattle.ntb_top.specs.Commands.{IsInRange, IsPlain, command_of as command_by_words, is_reading};
 ghost use Rattle.ntb_top.specs.Inputs.{HasReplied, HasWritten};
-ghost use Rattle.ntb_top.specs.Runs.{HasRun};
+ghost use Rattle.ntb_top.specs.Runs.{HasAnswered, HasRun};
+ghost use Rattle.ntb_top.specs.declared.command.Command.TheVariants.{Plain};
 
-use crate::command::{Command, command_of};
+use crate::command::{PlainCommand, plain_of};
 use crate::input::{Input, Stop, read_input};
 use check_command::check_reply;
 use command_reply::{Reply, Status};
@@ -48,21 +49,55 @@ pub fn plain_program<S: Source, K: Sink>(
         })
         result }
 {
-    match reply_to(alloc, words, source) {
+    run_plain(alloc, plain_of(words), source, sink)
+}
+
+/// The program on a command that takes no thread, or on words that are no command.
+pub(crate) fn run_plain<S: Source, K: Sink>(
+    alloc: Global,
+    command: Option<PlainCommand>,
+    source: &mut S,
+    sink: &mut K,
+) -> u8
+    requires { IfSome (option_map Plain command) IsInRange }
+    ensures { HasAnswered (is_reading (option_map Plain command)) (IsAnswerTo (option_map Plain command))
+        (record {
+          left = S.left source.old;
+          read_faults = S.faults source.old;
+          reads = S.reads source.old;
+          held = K.held sink.old;
+          write_faults = K.faults sink.old;
+          writes = K.writes sink.old;
+        })
+        (record {
+          left = S.left source.new;
+          read_faults = S.faults source.new;
+          reads = S.reads source.new;
+          held = K.held sink.new;
+          write_faults = K.faults sink.new;
+          writes = K.writes sink.new;
+        })
+        result }
+{
+    match reply_to(alloc, command, source) {
         Ok(reply) => write_reply(sink, &reply),
         Err(Stop::SourceFailed) => Status::SourceFailed.number(),
         Err(Stop::OutOfMemory) => Status::OutOfMemory.number(),
     }
 }
 
-// The reply to these words over this source.
-fn reply_to<S: Source>(alloc: Global, words: &[String], source: &mut S) -> Result<Reply, Stop>
-    requires { IsPlain (command_by_words (map string_bytes words.now)) }
-    ensures { HasReplied (reads_script (map string_bytes words.now)) (IsAnswerTo (command_by_words (map string_bytes words.now)))
+// The reply to a command, or to words that are none, over this source.
+fn reply_to<S: Source>(
+    alloc: Global,
+    command: Option<PlainCommand>,
+    source: &mut S,
+) -> Result<Reply, Stop>
+    requires { IfSome (option_map Plain command) IsInRange }
+    ensures { HasReplied (is_reading (option_map Plain command)) (IsAnswerTo (option_map Plain command))
         (record { left = S.left source.old; faults = S.faults source.old; reads = S.reads source.old })
         (record { left = S.left source.new; faults = S.faults source.new; reads = S.reads source.new }) result }
 {
-    match command_of(words) {
+    match command {
         None => Ok(Reply::usage()),
         Some(command) => match read_input(alloc, command.reads(), source)? {
             Input::Whole(bytes) => Ok(reply_of(alloc, command, &bytes)?),
@@ -72,21 +107,18 @@ fn reply_to<S: Source>(alloc: Global, words: &[String], source: &mut S) -> Resul
 }
 
 // The reply of a command to the bytes that it read. The only error is running out of memory.
-fn reply_of(alloc: Global, command: Command, bytes: &[u8]) -> Result<Reply, AllocError>
-    requires plain { IsPlain (Some command) }
-    requires range { IsInRange command }
+fn reply_of(alloc: Global, command: PlainCommand, bytes: &[u8]) -> Result<Reply, AllocError>
+    requires range { IsInRange (Plain command) }
     requires few { length bytes.now ≤ most_script_bytes }
-    ensures { IfOk result (λ reply. IsReplyOf command bytes.now reply) }
+    ensures { IfOk result (λ reply. IsReplyOf (Plain command) bytes.now reply) }
 {
     match command {
-        Command::Replay => replay_reply(alloc, bytes),
-        Command::Load { seed, frames } => load_reply(alloc, seed, frames),
-        Command::Reads => reads_reply(alloc, bytes),
-        Command::Trace => trace_reply(alloc, bytes),
-        Command::Check => check_reply(alloc, bytes),
-        Command::Explore => explore_reply(alloc, bytes),
-        Command::Run => unreachable!(),
-        Command::Stream => unreachable!(),
+        PlainCommand::Replay => replay_reply(alloc, bytes),
+        PlainCommand::Load { seed, frames } => load_reply(alloc, seed, frames),
+        PlainCommand::Reads => reads_reply(alloc, bytes),
+        PlainCommand::Trace => trace_reply(alloc, bytes),
+        PlainCommand::Check => check_reply(alloc, bytes),
+        PlainCommand::Explore => explore_reply(alloc, bytes),
     }
 }
 

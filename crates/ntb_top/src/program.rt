@@ -1,6 +1,6 @@
 //! The top call.
 
-ghost use Rattle.std.specs.Prelude.{◌≡◌, Some, map, true};
+ghost use Rattle.std.specs.Prelude.{◌≡◌, IfSome, Some, map, option_map, true};
 ghost use Rattle.std.specs.String.{string_bytes};
 ghost use Rattle.io_edges.specs.Gates.{LetsWorkers};
 ghost use Rattle.cluster_run.specs.stream.Workers.{most_stream_workers};
@@ -8,15 +8,16 @@ ghost use Rattle.command_reply.specs.Statuses.{number_of};
 ghost use Rattle.command_reply.specs.declared.status.Status.TheVariants.{Done};
 ghost use Rattle.traffic_command.specs.Replies.{carried_by};
 ghost use Rattle.ntb_top.specs.Answers.{IsRunAnswerTo};
-ghost use Rattle.ntb_top.specs.Commands.{command_of as command_by_words};
+ghost use Rattle.ntb_top.specs.Commands.{IsInRange, command_of as command_by_words};
 ghost use Rattle.ntb_top.specs.Ends.{HasEnded, beside_of, beside_run, nothing_beside};
 ghost use Rattle.ntb_top.specs.Inputs.{HasReplied, HasWritten};
-ghost use Rattle.ntb_top.specs.declared.command.Command.TheVariants.{Run};
+ghost use Rattle.ntb_top.specs.declared.command.Command.TheVariants.{Plain, Threaded};
+ghost use Rattle.ntb_top.specs.declared.command.ThreadedCommand.TheVariants.{Run};
 
-use crate::command::{Command, command_of};
+use crate::command::{Command, PlainCommand, ThreadedCommand, command_of};
 use crate::ended::Ended;
 use crate::input::{Input, Stop, read_input};
-use crate::plain::{plain_program, write_reply};
+use crate::plain::{run_plain, write_reply};
 use crate::streams::stream_traffic;
 use command_reply::Status;
 use io_edges::{Gate, Sink, Source};
@@ -28,15 +29,15 @@ use traffic_command::{TrafficReply, run_reply};
 
 /// Does all that the program does, and answers the exit status. It reads its input from the source where the words are
 /// a command that reads, and writes one text to the sink. Each read but the last gives a byte, and each write but a
-/// failed last one takes a byte. On words that aren't `run` or `stream` it is one call of [`plain_program`]. On these
-/// two each worker passes the gate before each of its turns, and the end has the record whose text was written, with
-/// the proofs of its sessions.
+/// failed last one takes a byte. On words that aren't `run` or `stream` it does what
+/// [`plain_program`](crate::plain_program) does. On these two each worker passes the gate before each of its turns, and
+/// the end has the record whose text was written, with the proofs of its sessions.
 ///
 /// The gate has to let all workers with numbers below 524,280 pass, before each turn with a number below 2^64.
 ///
 /// | status | cause | text |
 /// |---|---|---|
-/// | 0 | none of the others | what the command writes, as [`Command`] says |
+/// | 0 | none of the others | what the command writes, as [`PlainCommand`] and [`ThreadedCommand`] say |
 /// | 2 | the words are no command | `usage` |
 /// | 3 | a line of the input has a fault | `refused line L CAUSE`; of `reads`, whose cause is always `badline`; of `check` with the word and the range |
 /// | 4 | the source failed | nothing |
@@ -75,10 +76,45 @@ pub fn run_program<R: Threads + Wait + Sync, S: Source, K: Sink, G: Gate>(
         result.status (beside_of result) }
 {
     match command_of(words) {
-        Some(Command::Run) => run_traffic(rt, alloc, source, sink, gate),
-        Some(Command::Stream) => stream_traffic(rt, alloc, source, sink, gate),
-        Some(_) | None => Ended::alone(alloc, plain_program(alloc, words, source, sink)),
+        Some(Command::Plain(command)) => plain_end(alloc, Some(command), source, sink),
+        Some(Command::Threaded(ThreadedCommand::Run)) => {
+            run_traffic(rt, alloc, source, sink, gate)
+        }
+        Some(Command::Threaded(ThreadedCommand::Stream)) => {
+            stream_traffic(rt, alloc, source, sink, gate)
+        }
+        None => plain_end(alloc, None, source, sink),
     }
+}
+
+// The program on a command that takes no thread, or on words that are no command.
+fn plain_end<S: Source, K: Sink>(
+    alloc: Global,
+    command: Option<PlainCommand>,
+    source: &mut S,
+    sink: &mut K,
+) -> Ended
+    requires { IfSome (option_map Plain command) IsInRange }
+    ensures { HasEnded (option_map Plain command)
+        (record {
+          left = S.left source.old;
+          read_faults = S.faults source.old;
+          reads = S.reads source.old;
+          held = K.held sink.old;
+          write_faults = K.faults sink.old;
+          writes = K.writes sink.old;
+        })
+        (record {
+          left = S.left source.new;
+          read_faults = S.faults source.new;
+          reads = S.reads source.new;
+          held = K.held sink.new;
+          write_faults = K.faults sink.new;
+          writes = K.writes sink.new;
+        })
+        result.status (beside_of result) }
+{
+    Ended::alone(alloc, run_plain(alloc, command, source, sink))
 }
 
 // The program on the word `run`.
@@ -90,7 +126,7 @@ fn run_traffic<R: Threads + Wait + Sync, S: Source, K: Sink, G: Gate>(
     gate: &G,
 ) -> Ended
     requires { LetsWorkers (G.lets gate.now) most_stream_workers }
-    ensures { HasEnded (Some Run)
+    ensures { HasEnded (Some (Threaded Run))
         (record {
           left = S.left source.old;
           read_faults = S.faults source.old;

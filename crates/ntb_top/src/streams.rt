@@ -9,7 +9,8 @@ ghost use Rattle.traffic_command.specs.Replies.{streamed_by};
 ghost use Rattle.ntb_top.specs.Answers.{IsStreamAnswerTo};
 ghost use Rattle.ntb_top.specs.Ends.{HasEnded, beside_of, beside_stream, nothing_beside};
 ghost use Rattle.ntb_top.specs.Inputs.{HasReplied, HasWritten};
-ghost use Rattle.ntb_top.specs.declared.command.Command.TheVariants.{Stream};
+ghost use Rattle.ntb_top.specs.declared.command.Command.TheVariants.{Threaded};
+ghost use Rattle.ntb_top.specs.declared.command.ThreadedCommand.TheVariants.{Stream};
 
 use crate::ended::Ended;
 use crate::input::{Input, Stop, read_input};
@@ -31,7 +32,7 @@ pub(crate) fn stream_traffic<R: Threads + Wait + Sync, S: Source, K: Sink, G: Ga
     gate: &G,
 ) -> Ended
     requires { LetsWorkers (G.lets gate.now) most_stream_workers }
-    ensures { HasEnded (Some Stream)
+    ensures { HasEnded (Some (Threaded Stream))
         (record {
           left = S.left source.old;
           read_faults = S.faults source.old;
