@@ -17,6 +17,7 @@ from tests.support import TOP
 TOOLS = TOP / "tools"
 Function = Union[ast.FunctionDef, ast.AsyncFunctionDef]
 MOST_FUNCTION, MOST_FRONT = 40, 3000
+TYPED_TOOLS = ("check", "wrong-bodies", "wrong-definitions", "edit_files.py", "tested_bodies.py")
 
 
 def tool(*words: str) -> subprocess.CompletedProcess[str]:
@@ -69,9 +70,9 @@ def bare_arguments(function: Function) -> list[str]:
 
 
 def is_typed(path: Path) -> bool:
-    """Whether a file's functions have to be annotated and short: of the front, the tests, benches and soaks."""
-    folder = path.parent.name
-    return folder in ("ntbview", "tests") or path == TOOLS / "check" or path.name.startswith(("bench", "soak-"))
+    """Whether a file's functions have to be annotated and short: of the front, the tests, benches, soaks and others."""
+    folder, of_tools = path.parent.name, path.parent == TOOLS and path.name in TYPED_TOOLS
+    return folder in ("ntbview", "tests") or of_tools or path.name.startswith(("bench", "soak-"))
 
 
 class Rules(unittest.TestCase):
