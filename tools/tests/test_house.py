@@ -12,7 +12,7 @@ from pathlib import Path
 from typing import Iterator, Union
 
 from tests.answers import shown, wanted
-from tests.support import TOP
+from tests.support import TOP, Folder
 
 TOOLS = TOP / "tools"
 Function = Union[ast.FunctionDef, ast.AsyncFunctionDef]
@@ -103,6 +103,27 @@ class Rules(unittest.TestCase):
         """The wrong bodies can still be made in the sources."""
         done = tool("wrong-bodies", "--fits")
         self.assertEqual(done.returncode, 0, done.stdout + done.stderr)
+
+
+class Bound(Folder):
+    """The number of files of tools/."""
+
+    def test_bound(self) -> None:
+        """tools/house allows 130 files, and finds 131; those that git leaves out aren't counted."""
+        (self.folder / "tools").mkdir()
+        shutil.copy(TOOLS / "house", self.folder / "tools")
+        self.write("crates.txt", "")
+        self.write(".gitignore", "*.left-out\n")
+        subprocess.run(["git", "init", "-q"], cwd=self.folder, check=True)
+        for number in range(129):
+            self.write(f"tools/{number}", "")
+            self.write(f"tools/{number}.left-out", "")
+        words = [str(self.folder / "tools" / "house"), "tools"]
+        for found, told in (("0 found", ""), ("1 found", "tools:1: 131 files, and at most 130 may stand here\n")):
+            done = subprocess.run(words, capture_output=True, text=True, check=False)
+            told += f"tools: {found}, 0 allowed by tools/house_tools.txt\n"
+            self.assertEqual((done.returncode, done.stdout, done.stderr), (int(found[0]), told, ""))
+            self.write("tools/more", "")
 
 
 class Python(unittest.TestCase):
