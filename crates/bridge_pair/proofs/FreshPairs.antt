@@ -1,10 +1,10 @@
 -- Fresh pairs.
 use Rattle.std.proofs.Common.{◌≡◌, ℕ, ◌<◌, ◌^◌, Bool, true, false, List, [], Contains, replicate, refl, sym, ap, ◌∙◌, subst, arith, ⊎_elim, if◌then◌else◌}
 use Rattle.std.proofs.lemmas.Nat.{pow_pos}
-use Rattle.byte_model.specs.Stores.{Store}
+use Rattle.pair_model.specs.Stores.{Store}
 use Rattle.host_memory.specs.Memory.{Contents}
-use Rattle.byte_model.specs.FreshRings.{fresh_index_words}
-use Rattle.plan_model.specs.Plans.{side_plan}
+use Rattle.pair_model.specs.FreshRings.{fresh_index_words}
+use Rattle.pair_model.specs.Plans.{side_plan}
 use Rattle.step_kinds.specs.declared.names.Side.{Side}
 use Rattle.step_kinds.specs.declared.names.Side.TheVariants.{A, B}
 use Rattle.step_kinds.specs.declared.plan.PairPlan.{PairPlan}

@@ -1,12 +1,12 @@
 -- Index words: their pages are promised one after the other, and they are stored from the last one on.
 use Rattle.std.proofs.Common.{◌≡◌, ℕ, ◌+◌, ◌-◌, ◌<◌, suc, List, map, ap, ◌∙◌, subst}
-use Rattle.byte_model.specs.Addresses.{own_index_word}
-use Rattle.byte_model.specs.Headers.{word_bytes}
+use Rattle.pair_model.specs.Addresses.{own_index_word}
+use Rattle.pair_model.specs.Headers.{word_bytes}
 use Rattle.host_memory.specs.Memory.{ArePromised, Touches, written}
 use Rattle.lane_model.specs.Lane.{count_from}
-use Rattle.byte_model.specs.FreshRings.{fresh_index_word}
-use Rattle.plan_model.specs.Plans.{side_plan}
-use Rattle.plan_model.specs.Sizes.{layout_of}
+use Rattle.pair_model.specs.FreshRings.{fresh_index_word}
+use Rattle.pair_model.specs.Plans.{side_plan}
+use Rattle.pair_model.specs.Sizes.{layout_of}
 use Rattle.ring_geometry.specs.Geometry.{entries_of}
 use Rattle.step_kinds.specs.declared.names.Side.{Side}
 use Rattle.step_kinds.specs.declared.plan.PairPlan.{PairPlan}

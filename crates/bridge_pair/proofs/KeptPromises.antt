@@ -1,7 +1,7 @@
 -- What stays promised while calls are made that promise nothing.
 use Rattle.std.proofs.Common.{◌≡◌, ℕ, ◌-◌, Bool, true, false, List, Option, Some, None, refl, ◌∙◌, if◌then◌else◌}
-use Rattle.plan_model.specs.Link.{is_up, enable_refusal, train_refusal, cut_refusal, drop_refusal, clean_refusal}
-use Rattle.plan_model.specs.declared.LinkRefusal.{LinkRefusal}
+use Rattle.pair_model.specs.Link.{is_up, enable_refusal, train_refusal, cut_refusal, drop_refusal, clean_refusal}
+use Rattle.pair_model.specs.declared.LinkRefusal.{LinkRefusal}
 use Rattle.posted_queue.specs.Flight.{Flight}
 use Rattle.posted_queue.specs.Landing.{after_landing}
 use Rattle.posted_queue.specs.declared.LandAnswer.{LandAnswer}

@@ -2,7 +2,7 @@
 use Rattle.std.proofs.Common.{◌≡◌, ℕ, zero, suc, ◌+◌, ◌-◌, ◌*◌, ◌/◌, ◌%◌, ◌<◌, List, [], ◌∷◌, ◌++◌, refl, replicate, slice_set, arith}
 use Rattle.std.specs.List.{flat_map}
 use Rattle.lane_model.specs.Lane.{count_from}
-use Rattle.plan_model.specs.Pads.{word}
+use Rattle.pair_model.specs.Pads.{word}
 use Rattle.step_kinds.specs.Bits.{all_below}
 use Rattle.step_kinds.specs.declared.plan.SidePlan.{SidePlan}
 

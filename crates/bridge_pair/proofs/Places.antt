@@ -6,7 +6,7 @@ use Rattle.std.proofs.lemmas.List.Elements.{All-append, All-drop, All-get_or, Al
 use Rattle.std.proofs.lemmas.Option.{get_or_from_slice_get, slice_get_within}
 use Rattle.host_memory.specs.Memory.{Contents}
 use Rattle.order_rules.specs.Order.{Order}
-use Rattle.plan_model.specs.Plans.{side_plan}
+use Rattle.pair_model.specs.Plans.{side_plan}
 use Rattle.posted_queue.specs.Flight.{Flight}
 use Rattle.posted_queue.specs.Landing.{answer_for, land_answer}
 use Rattle.posted_queue.specs.declared.LandAnswer.TheVariants.{Landed}

@@ -1,6 +1,6 @@
 -- Two sides that make a pair which a script can declare.
 use Rattle.std.proofs.Common.{◌≡◌, ℕ, zero, suc, ◌<◌, ◌≤◌, inl, true, List, ◌∷◌, replicate, arith}
-use Rattle.plan_model.specs.DeclaredPlans.{Agree, AreClasses, IsPair, IsSide, SizesFit}
+use Rattle.pair_model.specs.DeclaredPlans.{Agree, AreClasses, IsPair, IsSide, SizesFit}
 use Rattle.step_kinds.specs.Limits.{IsMtu}
 use Rattle.step_kinds.specs.declared.plan.PairPlan.{PairPlan}
 

@@ -1,7 +1,7 @@
 -- Two bridges have the same ends exactly where both ends of the two pairs are the same.
 use Rattle.std.proofs.Common.{◌≡◌, ℕ, List, ap, subst, sym}
 use Rattle.bridge_regs.specs.Doorbell.{Doorbell}
-use Rattle.plan_model.specs.Both.{Both}
+use Rattle.pair_model.specs.Both.{Both}
 use Rattle.step_kinds.specs.declared.names.Side.{Side}
 use Rattle.step_kinds.specs.declared.names.Side.TheVariants.{A, B}
 use Rattle.bridge_pair.specs.Bridge.{Bridge, bytes_of, flight_of}

@@ -4,10 +4,10 @@ use Rattle.std.specs.Prelude.{◌≡◌, ℕ, ◌+◌, ◌*◌, ◌^◌, ◌<◌
 use Rattle.step_kinds.specs.Sides.{other_side}
 use Rattle.step_kinds.specs.declared.names.Side.{Side}
 use Rattle.step_kinds.specs.declared.plan.PairPlan.{PairPlan}
-use Rattle.plan_model.specs.DeclaredPlans.{IsPair}
-use Rattle.plan_model.specs.Plans.{side_plan}
-use Rattle.plan_model.specs.Both.{Both, at_side, with_side}
-use Rattle.plan_model.specs.Link.{Link}
+use Rattle.pair_model.specs.DeclaredPlans.{IsPair}
+use Rattle.pair_model.specs.Plans.{side_plan}
+use Rattle.pair_model.specs.Both.{Both, at_side, with_side}
+use Rattle.pair_model.specs.Link.{Link}
 use Rattle.plan_numbers.specs.Memories.{memory_size}
 use Rattle.bridge_regs.specs.Doorbell.{Doorbell}
 use Rattle.bridge_regs.specs.Laws.{FitsRegisters}

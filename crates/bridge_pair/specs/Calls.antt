@@ -5,7 +5,7 @@ use Rattle.step_kinds.specs.Sides.{other_side}
 use Rattle.step_kinds.specs.declared.names.Side.{Side}
 use Rattle.bridge_regs.specs.Doorbell.{with_pending}
 use Rattle.host_memory.specs.Memory.{ArePromised, written}
-use Rattle.plan_model.specs.Link.{is_up}
+use Rattle.pair_model.specs.Link.{is_up}
 use Rattle.posted_queue.specs.Landing.{land_answer, after_landing}
 use Rattle.posted_queue.specs.declared.LandAnswer.{LandAnswer}
 use Rattle.posted_queue.specs.declared.LandAnswer.TheVariants.{Landed}

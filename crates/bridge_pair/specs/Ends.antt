@@ -4,7 +4,7 @@ use Rattle.step_kinds.specs.Bits.{with_bit}
 use Rattle.step_kinds.specs.declared.steps.Label.{Label}
 use Rattle.bridge_regs.specs.Doorbell.{Doorbell, quiet, with_pending}
 use Rattle.bridge_regs.specs.Laws.{FitsRegisters}
-use Rattle.byte_model.specs.Stores.{Store}
+use Rattle.pair_model.specs.Stores.{Store}
 use Rattle.host_memory.specs.Memory.{Contents, ArePromised, written}
 use Rattle.posted_queue.specs.Flight.{Flight, nothing_in_flight, posted, given_back}
 use Rattle.posted_queue.specs.declared.LandAnswer.{LandAnswer}

@@ -5,9 +5,9 @@ use Rattle.step_kinds.specs.declared.names.Side.{Side}
 use Rattle.step_kinds.specs.declared.plan.PairPlan.{PairPlan}
 use Rattle.step_kinds.specs.declared.steps.Label.{Label}
 use Rattle.order_rules.specs.Order.{Order}
-use Rattle.plan_model.specs.Orders.{order_of}
-use Rattle.plan_model.specs.Plans.{side_plan}
-use Rattle.byte_model.specs.Addresses.{peer_address}
+use Rattle.pair_model.specs.Orders.{order_of}
+use Rattle.pair_model.specs.Plans.{side_plan}
+use Rattle.pair_model.specs.Addresses.{peer_address}
 use Rattle.bridge_pair.specs.Writes.{PostedWrite}
 use Rattle.bridge_pair.specs.declared.flying_write.Arrival.{Arrival}
 use Rattle.bridge_pair.specs.declared.flying_write.Arrival.TheVariants.{AtAddress, AtPad, AtBell}

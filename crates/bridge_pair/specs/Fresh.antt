@@ -6,13 +6,13 @@ use Rattle.step_kinds.specs.declared.names.Side.{Side}
 use Rattle.step_kinds.specs.declared.names.Side.TheVariants.{A, B}
 use Rattle.step_kinds.specs.declared.plan.PairPlan.{PairPlan}
 use Rattle.bridge_regs.specs.Doorbell.{quiet}
-use Rattle.byte_model.specs.Stores.{Store}
+use Rattle.pair_model.specs.Stores.{Store}
 use Rattle.host_memory.specs.Memory.{Contents}
-use Rattle.plan_model.specs.Both.{Both, both_of}
-use Rattle.plan_model.specs.Link.{fresh_link}
-use Rattle.plan_model.specs.Pads.{agreed_pads}
-use Rattle.byte_model.specs.FreshRings.{fresh_index_words}
-use Rattle.plan_model.specs.Plans.{side_plan}
+use Rattle.pair_model.specs.Both.{Both, both_of}
+use Rattle.pair_model.specs.Link.{fresh_link}
+use Rattle.pair_model.specs.Pads.{agreed_pads}
+use Rattle.pair_model.specs.FreshRings.{fresh_index_words}
+use Rattle.pair_model.specs.Plans.{side_plan}
 use Rattle.posted_queue.specs.Flight.{nothing_in_flight}
 use Rattle.plan_numbers.specs.Memories.{memory_size}
 use Rattle.bridge_pair.specs.Bridge.{Bridge, bytes_of, offer_length}

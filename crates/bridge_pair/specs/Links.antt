@@ -2,8 +2,8 @@
 use Rattle.std.specs.Prelude.{false, Option, Some, None, replicate}
 use Rattle.step_kinds.specs.declared.names.Side.{Side}
 use Rattle.bridge_regs.specs.Doorbell.{with_pending}
-use Rattle.plan_model.specs.Link.{enable_refusal, enabled_link, train_refusal, trained_link, cut_refusal, cut_link, drop_refusal, dropped_link, clean_refusal, cleaned_link}
-use Rattle.plan_model.specs.declared.LinkRefusal.{LinkRefusal}
+use Rattle.pair_model.specs.Link.{enable_refusal, enabled_link, train_refusal, trained_link, cut_refusal, cut_link, drop_refusal, dropped_link, clean_refusal, cleaned_link}
+use Rattle.pair_model.specs.declared.LinkRefusal.{LinkRefusal}
 use Rattle.posted_queue.specs.Flight.{discarded}
 use Rattle.bridge_pair.specs.Bridge.{Bridge, bells_of, with_link, with_book, with_pads, with_bells}
 use Rattle.bridge_pair.specs.declared.book.SideBook.{SideBook}

@@ -1,7 +1,7 @@
 -- What contracts see of this crate's types.
 use Rattle.std.specs.Prelude.{◌≡◌, length}
 use Rattle.step_kinds.specs.declared.names.Side.TheVariants.{A, B}
-use Rattle.plan_model.specs.DeclaredPlans.{IsPair}
+use Rattle.pair_model.specs.DeclaredPlans.{IsPair}
 use Rattle.plan_numbers.specs.Memories.{memory_size}
 use Rattle.bridge_pair.specs.Bridge.{Bridge, IsBook}
 use Rattle.bridge_pair.specs.declared.pair.Pair.TheInside.{Inside}

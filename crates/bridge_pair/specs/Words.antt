@@ -1,8 +1,8 @@
 -- The pages of a side's index words.
 use Rattle.std.specs.Prelude.{◌≡◌, ℕ, ◌<◌, true, List, Contains}
-use Rattle.byte_model.specs.Addresses.{own_index_word}
+use Rattle.pair_model.specs.Addresses.{own_index_word}
 use Rattle.host_memory.specs.Memory.{ArePromised, Touches}
-use Rattle.plan_model.specs.Plans.{side_plan}
+use Rattle.pair_model.specs.Plans.{side_plan}
 use Rattle.step_kinds.specs.declared.names.Side.{Side}
 use Rattle.step_kinds.specs.declared.plan.PairPlan.{PairPlan}
 

@@ -3,14 +3,14 @@
 ghost use Rattle.std.specs.Prelude.{◌≡◌, ◌↔◌, ◌+◌, ◌<◌, ◌≤◌, IsTrue, Contains, IfOk, IsOk, OnOk, OnErr, length, option_map, replicate, slice_get, slice_index, slice_set, vec_len};
 ghost use Rattle.step_kinds.specs.Limits.{most_write_bytes};
 ghost use Rattle.bridge_pair.specs.Ends.{HasPlace, IsEnd, after_answer, after_arrival, fresh_end, label_landed, stored_at};
-ghost use Rattle.plan_model.specs.DeclaredPlans.{IsPair};
-ghost use Rattle.plan_model.specs.Orders.{order_of};
+ghost use Rattle.pair_model.specs.DeclaredPlans.{IsPair};
+ghost use Rattle.pair_model.specs.Orders.{order_of};
 ghost use Rattle.bridge_pair.specs.Flights.{Flying, flying_order};
 ghost use Rattle.bridge_pair.specs.declared.flying_write.Arrival.TheVariants.{AtAddress};
 ghost use Rattle.bridge_pair.specs.Pages.{PagesGrow};
 ghost use Rattle.bridge_pair.specs.Same.{HasSameParts, IsSameEnd, LandsAsEnd};
 ghost use Rattle.bridge_regs.specs.Doorbell.{with_pending};
-ghost use Rattle.byte_model.specs.Headers.{word_bytes};
+ghost use Rattle.pair_model.specs.Headers.{word_bytes};
 ghost use Rattle.host_memory.specs.Memory.{AreAbsent, ArePromised, AreZero, Touches, bytes_at, word_at};
 ghost use Rattle.posted_queue.specs.Flight.{discarded, given_back, nothing_in_flight, posted, promised};
 ghost use Rattle.posted_queue.specs.Landing.{after_landing, land_answer};

@@ -1,8 +1,8 @@
 //! Posted writes in flight.
 
 ghost use Rattle.std.specs.Prelude.{◌≡◌, ◌↔◌, ◌<◌, IfOk, IsTrue};
-ghost use Rattle.plan_model.specs.DeclaredPlans.{IsPair};
-ghost use Rattle.plan_model.specs.Orders.{order_of};
+ghost use Rattle.pair_model.specs.DeclaredPlans.{IsPair};
+ghost use Rattle.pair_model.specs.Orders.{order_of};
 
 use crate::flying_bytes::FlyingBytes;
 use plan_numbers::{class_among, classes_of, kind_of};

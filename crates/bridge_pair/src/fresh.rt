@@ -3,8 +3,8 @@
 ghost use Rattle.std.specs.Prelude.{◌≡◌, ◌≤◌, IfOk};
 ghost use Rattle.bridge_pair.specs.Fresh.{fresh_book as fresh_book_of, fresh_pads, zero_memory};
 ghost use Rattle.bridge_regs.specs.Doorbell.{quiet};
-ghost use Rattle.plan_model.specs.Pads.{agreed_pads as agreed_words};
-ghost use Rattle.plan_model.specs.DeclaredPlans.{IsPair};
+ghost use Rattle.pair_model.specs.Pads.{agreed_pads as agreed_words};
+ghost use Rattle.pair_model.specs.DeclaredPlans.{IsPair};
 ghost use Rattle.posted_queue.specs.Flight.{nothing_in_flight};
 ghost use Rattle.step_kinds.specs.Bits.{all_below};
 ghost use Rattle.step_kinds.specs.Limits.{most_queues, most_windows};

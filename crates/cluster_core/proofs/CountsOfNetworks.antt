@@ -2,11 +2,11 @@
 use Rattle.std.proofs.Common.{◌∙◌, ℕ, ◌+◌, List, count_by, length, ap, sym}
 use Rattle.step_kinds.specs.declared.names.LaneName.{LaneName}
 use Rattle.step_kinds.specs.declared.plan.Counters.{Counters}
-use Rattle.plan_model.specs.Plans.{dev_plan}
+use Rattle.pair_model.specs.Plans.{dev_plan}
 use Rattle.ledger_model.specs.Log.{Answered, Numbered, accepted, counters_in, delivered, first_session, lane_of_device, trains}
-use Rattle.memory_model.specs.Memory.{memory_of}
+use Rattle.ledger_model.specs.Memory.{memory_of}
 use Rattle.fabric_core.specs.LogClauses.{AreCounters as AreBridgeCounters, IsAccepted as IsBridgeAccepted, IsDelivered as IsBridgeDelivered, IsSession as IsBridgeSession}
-use Rattle.switch_laws.proofs.Facade.{bridges_have_a_log, log_reads_as_bridges}
+use Rattle.ledger_laws.proofs.Facade.{bridges_have_a_log, log_reads_as_bridges}
 use Rattle.cluster_core.specs.Cluster.{ClusterState}
 use Rattle.cluster_core.specs.LogClauses.{AreCounters, IsAccepted, IsDelivered, IsSession, log_after, network_after}
 

@@ -1,7 +1,7 @@
 -- What a plan declares is declared by each plan with the same pairs, devices and switches; and a cluster that has made
 -- nothing.
 use Rattle.std.proofs.Common.{◌≡◌, ◌∙◌, ℕ, List, [], length, map, sym, ap, subst}
-use Rattle.plan_model.specs.PlanParts.{declared_part}
+use Rattle.pair_model.specs.PlanParts.{declared_part}
 use Rattle.step_kinds.specs.declared.names.LaneName.{LaneName}
 use Rattle.step_kinds.specs.declared.names.Side.{Side}
 use Rattle.step_kinds.specs.declared.plan.Line.{Line}
@@ -9,11 +9,11 @@ use Rattle.step_kinds.specs.declared.plan.Plan.{Plan}
 use Rattle.step_kinds.specs.declared.plan.SwitchPlan.{SwitchPlan}
 use Rattle.step_kinds.specs.declared.plan.Traffic.{Traffic}
 use Rattle.step_kinds.specs.declared.steps.Step.{Step}
-use Rattle.plan_model.specs.DeclaredPlans.{IsDeclared, IsPermitted, IsQueueOf}
-use Rattle.plan_model.specs.Plans.{dev_plan}
-use Rattle.plan_model.specs.Switches.{AreSwitches}
-use Rattle.plan_model.proofs.Facade.{permitted_by_other, queue_of_other, switches_of_other, with_lists}
-use Rattle.switch_model.specs.Switch.{new_switch}
+use Rattle.pair_model.specs.DeclaredPlans.{IsDeclared, IsPermitted, IsQueueOf}
+use Rattle.pair_model.specs.Plans.{dev_plan}
+use Rattle.pair_model.specs.Switches.{AreSwitches}
+use Rattle.pair_model.proofs.Facade.{permitted_by_other, queue_of_other, switches_of_other, with_lists}
+use Rattle.pair_model.specs.Switch.{new_switch}
 use Rattle.fabric_core.specs.Fabric.{FabricState, StandsFor, bare_plan, plan_kept}
 use Rattle.cluster_core.specs.Cluster.{ClusterState, plan_held}
 use Rattle.cluster_core.specs.LogClauses.{HasMade}

@@ -2,10 +2,10 @@
 use Rattle.std.proofs.Common.{◌≡◌, ◌∙◌, ℕ, zero, suc, ◌<◌, List, [], ◌∷◌, ◌++◌, Option, Some, None, length, map, get_or, set, slice_get, refl, sym, ap, subst, arith, inl, inr, ◌⊎◌}
 use Rattle.std.proofs.lemmas.List.{get_or_default, length-map, length-replicate, length-set}
 use Rattle.step_kinds.specs.declared.plan.SwitchPlan.{SwitchPlan}
-use Rattle.plan_model.specs.Plans.{no_switch}
-use Rattle.switch_model.specs.Switch.{after, arrived, flooded, forwarded, frame_answer, list_of, new_switch, sent}
-use Rattle.switch_model.specs.declared.RelayAnswer.{RelayAnswer}
-use Rattle.switch_model.specs.declared.RelayAnswer.TheVariants.{Nothing, Short, Filtered, To, Flood}
+use Rattle.pair_model.specs.Plans.{no_switch}
+use Rattle.pair_model.specs.Switch.{after, arrived, flooded, forwarded, frame_answer, list_of, new_switch, sent}
+use Rattle.pair_model.specs.declared.RelayAnswer.{RelayAnswer}
+use Rattle.pair_model.specs.declared.RelayAnswer.TheVariants.{Nothing, Short, Filtered, To, Flood}
 use Rattle.learn_switch.specs.Frames.{Bytes, bytes_after_relay}
 use Rattle.cluster_core.specs.Clusters.{HasPorts, HavePorts}
 use Rattle.cluster_core.specs.Parts.{IsPortAmong}

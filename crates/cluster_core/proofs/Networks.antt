@@ -5,10 +5,10 @@ use Rattle.step_kinds.specs.declared.steps.Answer.{Answer}
 use Rattle.step_kinds.specs.declared.steps.Step.{Step}
 use Rattle.step_kinds.specs.declared.steps.Step.TheVariants.{Copy, Relay, Xnext}
 use Rattle.ledger_model.specs.Log.{Answered, Memories}
-use Rattle.memory_model.specs.Memory.{memory_of}
-use Rattle.switch_model.specs.Switch.{Switch}
-use Rattle.switch_log.specs.Network.{Network, OnBridge, action_of, items_from, network_from, next_item, next_network, switches_reached}
-use Rattle.switch_log.specs.Origins.{Keeping, bytes_kept}
+use Rattle.ledger_model.specs.Memory.{memory_of}
+use Rattle.pair_model.specs.Switch.{Switch}
+use Rattle.ledger_model.specs.Network.{Network, OnBridge, action_of, items_from, network_from, next_item, next_network, switches_reached}
+use Rattle.ledger_model.specs.Origins.{Keeping, bytes_kept}
 use Rattle.cluster_core.specs.LogClauses.{log_after, network_after}
 use Rattle.cluster_core.specs.Parts.{part_of}
 use Rattle.cluster_core.specs.declared.parts.StepPart.TheVariants.{OnBridges}

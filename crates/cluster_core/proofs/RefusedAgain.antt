@@ -10,13 +10,13 @@ use Rattle.step_kinds.specs.declared.steps.Step.TheVariants.{Copy, Relay, Xbegin
 use Rattle.ledger_model.specs.Log.{Answered, Memories}
 use Rattle.ledger_laws.proofs.Facade.{log_of-last}
 use Rattle.step_kinds.specs.Answers.{is_made}
-use Rattle.memory_model.specs.Memory.{memory_of}
+use Rattle.ledger_model.specs.Memory.{memory_of}
 use Rattle.fabric_core.specs.LogClauses.{IsAnswered as IsAnsweredOnBridges}
 use Rattle.fabric_core.specs.Refusals.{counts_refusals}
 use Rattle.fabric_core.proofs.Facade.{refused_again as refused_on_bridges}
-use Rattle.switch_model.specs.Switch.{Switch}
-use Rattle.switch_log.specs.Network.{Action, Network, OnBridge, action_of, item_of, made_after, network_after as network_then, session_after, switches_reached}
-use Rattle.switch_log.specs.Origins.{bytes_kept}
+use Rattle.pair_model.specs.Switch.{Switch}
+use Rattle.ledger_model.specs.Network.{Action, Network, OnBridge, action_of, item_of, made_after, network_after as network_then, session_after, switches_reached}
+use Rattle.ledger_model.specs.Origins.{bytes_kept}
 use Rattle.cluster_core.specs.Cluster.{ClusterState}
 use Rattle.cluster_core.specs.LogClauses.{IsAnswered, IsNetwork, log_after, network_after}
 use Rattle.cluster_core.specs.Refusals.{RefusedAgain, is_plain}

@@ -8,9 +8,9 @@ use Rattle.step_kinds.specs.declared.steps.Step.{Step}
 use Rattle.step_kinds.specs.declared.steps.Step.TheVariants.{Land}
 use Rattle.fabric_core.specs.InFlight.{LandsNoneFrom as LandsNoneOnBridges}
 use Rattle.ledger_laws.proofs.Facade.{log_of-last}
-use Rattle.memory_model.specs.Memory.{memory_of}
-use Rattle.switch_log.specs.Log.{answer_after}
-use Rattle.switch_log.specs.Network.{Network}
+use Rattle.ledger_model.specs.Memory.{memory_of}
+use Rattle.ledger_model.specs.NetworkLog.{answer_after}
+use Rattle.ledger_model.specs.Network.{Network}
 use Rattle.fabric_core.specs.LogClauses.{HasMade as HasMadeOnBridges, IsAnswered as IsAnsweredOnBridges, log_after as log_on_bridges}
 use Rattle.fabric_core.proofs.Facade.{key_once_landed as key_on_bridges, one_list_makes_same, same_has_made_same, same_keys as same_fabrics_keys}
 use Rattle.cluster_core.specs.Cluster.{ClusterState, plan_held}

@@ -15,11 +15,11 @@ use Rattle.step_kinds.specs.declared.steps.Answer.TheVariants.{Delivered, Landed
 use Rattle.step_kinds.specs.declared.steps.Label.{Label}
 use Rattle.step_kinds.specs.declared.steps.Step.{Step}
 use Rattle.step_kinds.specs.declared.steps.Step.TheVariants.{Copy, Land, Relay, Xnext}
-use Rattle.plan_model.specs.DeclaredPlans.{IsQueueOf}
-use Rattle.plan_model.specs.Switches.{IsMakeable}
+use Rattle.pair_model.specs.DeclaredPlans.{IsQueueOf}
+use Rattle.pair_model.specs.Switches.{IsMakeable}
 use Rattle.ledger_model.specs.Log.{Answered}
 use Rattle.ledger_laws.proofs.Facade.{answer_of, landing_refused}
-use Rattle.memory_model.specs.Memory.{memory_of}
+use Rattle.ledger_model.specs.Memory.{memory_of}
 use Rattle.fabric_core.specs.Fabric.{FabricState, may_want_memory as bridges_may_want, pair_of, plain as plain_fabric, plan_kept}
 use Rattle.fabric_core.specs.FabricStep.{HasStepped as HasSteppedOnBridges}
 use Rattle.fabric_core.specs.FrameDue.{delivered_by, frame_due, rule_answer}
@@ -27,14 +27,14 @@ use Rattle.fabric_core.specs.LogClauses.{HasMade as HasMadeOnBridges, IsAnswered
 use Rattle.fabric_core.specs.Refusals.{refused_in as refused_on_bridges}
 use Rattle.fabric_core.specs.Wants.{MayWant}
 use Rattle.fabric_core.proofs.Facade.{due_wanted}
-use Rattle.switch_model.specs.Fdb.{destination, is_multicast, learned_source, lookup, source}
-use Rattle.switch_model.specs.Switch.{Switch, after, answer_of as answer_to, first, forward_answer, frame_answer, header_bytes, list_of, new_switch, unicast_answer}
-use Rattle.switch_model.specs.declared.RelayAnswer.{RelayAnswer}
-use Rattle.switch_model.specs.declared.RelayAnswer.TheVariants.{Nothing, Short, Filtered, To, Flood}
-use Rattle.switch_model.specs.declared.Station.{Station}
-use Rattle.switch_log.specs.Network.{Action, Network, Rests, Sends, answer_of as relay_answer_of, arrived_at, begin_on, item_of, made_after, network_after as network_then, sends_first, sends_from, session_after, switches_reached, switches_sent}
-use Rattle.switch_log.specs.Origins.{bytes_kept}
-use Rattle.switch_log.specs.Ports.{Port, port_from, port_on, switch_of}
+use Rattle.pair_model.specs.Fdb.{destination, is_multicast, learned_source, lookup, source}
+use Rattle.pair_model.specs.Switch.{Switch, after, answer_of as answer_to, first, forward_answer, frame_answer, header_bytes, list_of, new_switch, unicast_answer}
+use Rattle.pair_model.specs.declared.RelayAnswer.{RelayAnswer}
+use Rattle.pair_model.specs.declared.RelayAnswer.TheVariants.{Nothing, Short, Filtered, To, Flood}
+use Rattle.pair_model.specs.declared.Station.{Station}
+use Rattle.ledger_model.specs.Network.{Action, Network, Rests, Sends, answer_of as relay_answer_of, arrived_at, begin_on, item_of, made_after, network_after as network_then, sends_first, sends_from, session_after, switches_reached, switches_sent}
+use Rattle.ledger_model.specs.Origins.{bytes_kept}
+use Rattle.ledger_model.specs.Ports.{Port, port_from, port_on, switch_of}
 use Rattle.learn_switch.specs.Frames.{Bytes, bytes_relay_answer, goes_on}
 use Rattle.cluster_core.specs.Cluster.{ClusterState, plain, plan_held}
 use Rattle.cluster_core.specs.ClusterStep.{HasStepped}

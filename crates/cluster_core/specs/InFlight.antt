@@ -7,8 +7,8 @@ use Rattle.step_kinds.specs.declared.steps.Step.{Step}
 use Rattle.step_kinds.specs.declared.steps.Step.TheVariants.{Land}
 use Rattle.fabric_core.specs.InFlight.{fabric_key, fabric_key_without}
 use Rattle.cluster_core.specs.Cluster.{ClusterState}
-use Rattle.memory_model.specs.Memory.{memory_of}
-use Rattle.switch_log.specs.Log.{answer_after}
+use Rattle.ledger_model.specs.Memory.{memory_of}
+use Rattle.ledger_model.specs.NetworkLog.{answer_after}
 use Rattle.cluster_core.specs.LogClauses.{HasMade}
 
 -- whatever steps a cluster has made, a landing of that side at this place or a later one is answered `nothing` after

@@ -5,12 +5,12 @@ use Rattle.step_kinds.specs.declared.plan.Counters.{Counters}
 use Rattle.step_kinds.specs.declared.plan.Plan.{Plan}
 use Rattle.step_kinds.specs.declared.steps.Answer.{Answer}
 use Rattle.step_kinds.specs.declared.steps.Step.{Step}
-use Rattle.plan_model.specs.Plans.{dev_plan}
+use Rattle.pair_model.specs.Plans.{dev_plan}
 use Rattle.ledger_model.specs.Log.{Answered, accepted, counters_in, delivered, first_session, lane_of_device, trains}
-use Rattle.memory_model.specs.Memory.{memory_of}
+use Rattle.ledger_model.specs.Memory.{memory_of}
 use Rattle.fabric_core.specs.LogClauses.{HasMade as HasMadeOnBridges}
-use Rattle.switch_log.specs.Log.{network_of, switch_log}
-use Rattle.switch_log.specs.Network.{Network}
+use Rattle.ledger_model.specs.NetworkLog.{network_of, switch_log}
+use Rattle.ledger_model.specs.Network.{Network}
 use Rattle.cluster_core.specs.Cluster.{ClusterState}
 
 -- the log of steps and the network after them, whose memories show what was stored

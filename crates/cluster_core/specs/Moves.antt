@@ -2,11 +2,11 @@
 use Rattle.std.specs.Prelude.{ℕ, ◌<◌, Bool, true, false, IsSome, Option, Some, None, List, length}
 use Rattle.step_kinds.specs.declared.names.LaneName.{LaneName}
 use Rattle.step_kinds.specs.declared.steps.Answer.{Answer}
-use Rattle.plan_model.specs.DeclaredPlans.{IsFrame}
+use Rattle.pair_model.specs.DeclaredPlans.{IsFrame}
 use Rattle.fabric_core.specs.FrameDue.{frame_due}
-use Rattle.switch_model.specs.Switch.{list_of}
-use Rattle.switch_log.specs.Network.{Action, Rests, Sends, answer_of, arrived_at, sends_from, switches_sent}
-use Rattle.switch_log.specs.Ports.{Port, port_from, switch_of, with_switch}
+use Rattle.pair_model.specs.Switch.{list_of}
+use Rattle.ledger_model.specs.Network.{Action, Rests, Sends, answer_of, arrived_at, sends_from, switches_sent}
+use Rattle.ledger_model.specs.Ports.{Port, port_from, switch_of, with_switch}
 use Rattle.learn_switch.specs.Frames.{bytes_after_relay, bytes_relay_answer, goes_on}
 use Rattle.cluster_core.specs.Cluster.{ClusterState}
 use Rattle.cluster_core.specs.Parts.{IsPortAmong, port_seen}

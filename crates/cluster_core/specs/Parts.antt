@@ -8,10 +8,10 @@ use Rattle.step_kinds.specs.declared.plan.Plan.{Plan}
 use Rattle.step_kinds.specs.declared.plan.SwitchPlan.{SwitchPlan}
 use Rattle.step_kinds.specs.declared.steps.Step.{Step}
 use Rattle.step_kinds.specs.declared.steps.Step.TheVariants.{Copy, Relay, Xnext}
-use Rattle.plan_model.specs.DeclaredPlans.{IsDeviceOn}
-use Rattle.plan_model.specs.Plans.{dev_plan, no_switch}
+use Rattle.pair_model.specs.DeclaredPlans.{IsDeviceOn}
+use Rattle.pair_model.specs.Plans.{dev_plan, no_switch}
 use Rattle.ledger_model.specs.Log.{is_on}
-use Rattle.switch_log.specs.Ports.{Port}
+use Rattle.ledger_model.specs.Ports.{Port}
 use Rattle.cluster_core.specs.declared.parts.StepPart.{StepPart}
 use Rattle.cluster_core.specs.declared.parts.StepPart.TheVariants.{Copies, OnBridges, Relays, Sends}
 use Rattle.cluster_core.specs.declared.ports.PortPlace.{PortPlace}

@@ -1,23 +1,23 @@
 //! The cluster.
 
 ghost use Rattle.std.specs.Prelude.{◌≡◌, ◌++◌, ◌↔◌, ◌<◌, ◌∷◌, ℕ, [], IfOk, IfSome, IsTrue, List, OnErr, OnOk, Some, length, true};
-ghost use Rattle.plan_model.specs.PlanParts.{declared_part};
+ghost use Rattle.pair_model.specs.PlanParts.{declared_part};
 ghost use Rattle.step_kinds.specs.Sides.{other_side};
 ghost use Rattle.step_kinds.specs.declared.plan.Plan.{Plan as PlanValue};
 ghost use Rattle.step_kinds.specs.declared.steps.Answer.TheVariants.{Landed};
 ghost use Rattle.step_kinds.specs.declared.steps.Label.{Label as LabelValue};
 ghost use Rattle.step_kinds.specs.declared.steps.Step.{Step as MadeStep};
 ghost use Rattle.step_kinds.specs.declared.steps.Step.TheVariants.{Copy, Land, Xnext};
-ghost use Rattle.plan_model.specs.DeclaredPlans.{IsDeclared, IsPairOf, IsQueueOf};
-ghost use Rattle.plan_model.specs.Switches.{AreSwitches, IsMakeable};
+ghost use Rattle.pair_model.specs.DeclaredPlans.{IsDeclared, IsPairOf, IsQueueOf};
+ghost use Rattle.pair_model.specs.Switches.{AreSwitches, IsMakeable};
 ghost use Rattle.bridge_pair.specs.Bridge.{flight_of};
 ghost use Rattle.fabric_core.specs.Fabric.{pair_of};
 ghost use Rattle.fabric_core.specs.FrameDue.{frame_due};
 ghost use Rattle.cluster_core.specs.Cluster.{plan_held};
 ghost use Rattle.cluster_core.specs.ClusterStep.{HasStepped};
 ghost use Rattle.cluster_core.specs.InFlight.{LandsNoneFrom, key_of, key_without};
-ghost use Rattle.memory_model.specs.Memory.{memory_of};
-ghost use Rattle.switch_log.specs.Log.{answer_after};
+ghost use Rattle.ledger_model.specs.Memory.{memory_of};
+ghost use Rattle.ledger_model.specs.NetworkLog.{answer_after};
 ghost use Rattle.cluster_core.specs.LogClauses.{AreCounters, HasMade, IsAccepted, IsDelivered, IsSession};
 ghost use Rattle.cluster_core.specs.Moves.{BringsFrame, CanBeSent, HasWaiting, arrived_in, brought_in, does_send, relay_answer_in, relay_goes_on, relayed_in, sending_in, sends_next, taken_in};
 ghost use Rattle.cluster_core.specs.Parts.{HasDeviceOn, IsPortAmong, port_seen};

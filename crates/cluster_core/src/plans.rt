@@ -3,7 +3,7 @@
 ghost use Rattle.std.specs.Prelude.{◌≡◌, IfOk, length, map};
 ghost use Rattle.std.specs.List.{All};
 ghost use Rattle.step_kinds.specs.Limits.{IsPorts};
-ghost use Rattle.switch_model.specs.Switch.{new_switch};
+ghost use Rattle.pair_model.specs.Switch.{new_switch};
 
 use learn_switch::Switch;
 use std::alloc::{AllocError, Global};

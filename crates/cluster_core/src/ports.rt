@@ -5,7 +5,7 @@ ghost use Rattle.std.specs.List.{All, position_from};
 ghost use Rattle.step_kinds.specs.Sides.{same_side};
 ghost use Rattle.step_kinds.specs.Limits.{most_ports, most_switches};
 ghost use Rattle.ledger_model.specs.Log.{is_on as is_on_lane};
-ghost use Rattle.switch_log.specs.Ports.{port_from};
+ghost use Rattle.ledger_model.specs.Ports.{port_from};
 ghost use Rattle.cluster_core.specs.Parts.{HasFewPorts, IsPortAmong, is_device_on, port_seen};
 
 use step_kinds::{DevPlan, LaneName, Side, SwitchPlan};

@@ -1,7 +1,7 @@
 //! What a switch answers, in the words of a script.
 
 ghost use Rattle.std.specs.Prelude.{◌≡◌};
-ghost use Rattle.switch_log.specs.Network.{answer_of};
+ghost use Rattle.ledger_model.specs.Network.{answer_of};
 
 use learn_switch::RelayAnswer;
 use step_kinds::Answer;

@@ -11,7 +11,7 @@ use Rattle.step_kinds.specs.declared.names.LaneName.{LaneName}
 use Rattle.step_kinds.specs.declared.plan.Plan.{Plan}
 use Rattle.step_kinds.specs.declared.plan.Traffic.{Traffic}
 use Rattle.step_kinds.specs.declared.plan.Traffic.TheVariants.{Send, Break}
-use Rattle.plan_model.specs.TrafficPlans.{IsTraffic}
+use Rattle.pair_model.specs.TrafficPlans.{IsTraffic}
 use Rattle.traffic_plan.specs.Lanes.{frame_on, frames_on}
 use Rattle.cluster_run.specs.Lanes.{CanRun, lanes_in, lanes_of}
 use Rattle.cluster_run.specs.ByLane.{LaneFrames, lane_frames, frames_of, by_lane, place_of, with_frame, no_lane, lanes_with, HasPlace}

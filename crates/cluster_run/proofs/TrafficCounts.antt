@@ -7,7 +7,7 @@ use Rattle.std.specs.List.{All, range_with_len}
 use Rattle.step_kinds.specs.declared.plan.Plan.{Plan}
 use Rattle.step_kinds.specs.declared.plan.Traffic.{Traffic}
 use Rattle.step_kinds.specs.declared.plan.Traffic.TheVariants.{Send, Break}
-use Rattle.plan_model.specs.TrafficPlans.{IsTraffic, frames_in, is_break_of}
+use Rattle.pair_model.specs.TrafficPlans.{IsTraffic, frames_in, is_break_of}
 use Rattle.cluster_run.specs.Lanes.{CanRun}
 
 -- the losses of the links of n pairs, from pair a on

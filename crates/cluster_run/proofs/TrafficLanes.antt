@@ -15,9 +15,9 @@ use Rattle.step_kinds.specs.declared.plan.Plan.{Plan}
 use Rattle.step_kinds.specs.declared.plan.Traffic.{Traffic}
 use Rattle.step_kinds.specs.declared.plan.Traffic.TheVariants.{Send, Break}
 use Rattle.ring_geometry.specs.Geometry.{Layout, entries_of}
-use Rattle.plan_model.specs.Plans.{pair_plan, side_plan}
-use Rattle.plan_model.specs.Sizes.{layout_of}
-use Rattle.plan_model.specs.TrafficPlans.{IsTraffic, IsTrafficLane, frames_in, is_break_of}
+use Rattle.pair_model.specs.Plans.{pair_plan, side_plan}
+use Rattle.pair_model.specs.Sizes.{layout_of}
+use Rattle.pair_model.specs.TrafficPlans.{IsTraffic, IsTrafficLane, frames_in, is_break_of}
 use Rattle.lane_workers.specs.Passes.{HaveBytes}
 use Rattle.traffic_plan.specs.Lanes.{frames_on}
 use Rattle.cluster_run.specs.LaneKeys.{LaneKey}

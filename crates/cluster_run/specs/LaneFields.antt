@@ -2,7 +2,7 @@
 use Rattle.std.specs.Prelude.{◌≡◌, ◌+◌, ◌*◌, ◌≤◌, ◌<◌, ◌==◌, ◌&&◌, not, List, [], ◌∷◌, ◌++◌, length, map}
 use Rattle.step_kinds.specs.Limits.{most_breaks, most_traffic_frames, most_traffic_entries}
 use Rattle.step_kinds.specs.Runs.{SessionShown, session_shown}
-use Rattle.table_rule.specs.ShownLane.{most_lane_frames}
+use Rattle.table_lane.specs.ShownLane.{most_lane_frames}
 use Rattle.lane_workers.specs.Passes.{HaveBytes}
 use Rattle.cluster_run.specs.Runs.{accepted_over}
 use Rattle.cluster_run.specs.LaneKeys.{LaneKey, LaneState, cut_proofs}

@@ -2,7 +2,7 @@
 use Rattle.std.specs.Prelude.{◌≡◌, ℕ, ◌≤◌, ◌<◌, List, length, map, count_by}
 use Rattle.std.specs.List.{range_with_len}
 use Rattle.step_kinds.specs.declared.plan.Plan.{Plan}
-use Rattle.plan_model.specs.TrafficPlans.{IsTrafficLane, is_break_of}
+use Rattle.pair_model.specs.TrafficPlans.{IsTrafficLane, is_break_of}
 use Rattle.step_kinds.specs.Limits.{most_breaks, most_traffic_frames, most_traffic_entries}
 use Rattle.lane_workers.specs.Passes.{HaveBytes}
 use Rattle.cluster_run.specs.LaneKeys.{LaneKey}

@@ -1,6 +1,6 @@
 -- The fields of a lane's workers: what each shows, and what is true of it between two passes.
 use Rattle.std.specs.Prelude.{◌≡◌, ◌<◌, ◌+◌, ◌++◌, length}
-use Rattle.table_rule.specs.ShownLane.{most_lane_frames}
+use Rattle.table_lane.specs.ShownLane.{most_lane_frames}
 use Rattle.table_lane.specs.Tries.{tries}
 use Rattle.lane_workers.specs.Passes.{HaveBytes}
 use Rattle.cluster_run.specs.Workers.{SendingShown, MovingShown, ReceivingShown, CuttingShown}

@@ -3,7 +3,7 @@
 ghost use Rattle.std.specs.Prelude.{◌≡◌, ◌+◌, ◌*◌, ◌≤◌, ◌<◌, ◌++◌, ◌==◌, [], length, IfOk};
 ghost use Rattle.step_kinds.specs.Limits.{most_traffic_entries};
 ghost use Rattle.io_edges.specs.Gates.{LetsWorkers};
-ghost use Rattle.table_rule.specs.ShownLane.{most_lane_frames};
+ghost use Rattle.table_lane.specs.ShownLane.{most_lane_frames};
 ghost use Rattle.lane_workers.specs.Passes.{HaveBytes};
 ghost use Rattle.cluster_run.specs.Sessions.{new_session, EndsWith};
 ghost use Rattle.cluster_run.specs.Lanes.{most_lanes};

@@ -2,8 +2,8 @@
 
 ghost use Rattle.std.specs.Prelude.{◌≡◌, ◌≤◌, ◌<◌, ◌++◌, ◌∷◌, [], count_by, length, map, IfOk, OnOk};
 ghost use Rattle.step_kinds.specs.Limits.{most_breaks};
-ghost use Rattle.plan_model.specs.Plans.{pair_plan};
-ghost use Rattle.plan_model.specs.TrafficPlans.{is_break_of};
+ghost use Rattle.pair_model.specs.Plans.{pair_plan};
+ghost use Rattle.pair_model.specs.TrafficPlans.{is_break_of};
 ghost use Rattle.cluster_run.specs.LaneKeys.{keys_from};
 ghost use Rattle.cluster_run.specs.Lanes.{CanRun, traffic_lanes, most_lanes};
 ghost use Rattle.cluster_run.specs.ByLane.{AreOfTraffic, key_with, keys_with_frames, lane_frames};

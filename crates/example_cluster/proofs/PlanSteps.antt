@@ -1,11 +1,11 @@
 -- The steps of a plan, on the cluster of its pairs, devices and switches.
 use Rattle.std.proofs.Common.{◌≡◌, ◌∙◌, ℕ, ◌<◌, List, [], length, slice_index_or, ap, sym, subst, arith}
-use Rattle.plan_model.specs.PlanParts.{declared_part}
+use Rattle.pair_model.specs.PlanParts.{declared_part}
 use Rattle.step_kinds.specs.declared.plan.Line.{Line}
 use Rattle.step_kinds.specs.declared.plan.Plan.{Plan}
-use Rattle.plan_model.specs.Switches.{IsMakeable}
-use Rattle.plan_model.specs.TrafficPlans.{IsWhole}
-use Rattle.plan_model.proofs.Facade.{makeable_by_other}
+use Rattle.pair_model.specs.Switches.{IsMakeable}
+use Rattle.pair_model.specs.TrafficPlans.{IsWhole}
+use Rattle.pair_model.proofs.Facade.{makeable_by_other}
 
 -- a cluster that keeps a plan's pairs, devices and switches may make each of the plan's steps
 pub step_makeable : (plan kept : Plan) → IsWhole plan → kept ≡ declared_part plan → (lines : List Line) (i : ℕ) (line : Line) → lines ≡ plan.steps → i < length lines → line ≡ slice_index_or lines i line → IsMakeable kept line.step

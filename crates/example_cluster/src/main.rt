@@ -4,10 +4,10 @@
 #![tactic(auto)]
 
 ghost use Rattle.std.specs.Prelude.{◌≡◌, ◌≤◌, OnOk, length};
-ghost use Rattle.plan_model.specs.PlanParts.{declared_part};
+ghost use Rattle.pair_model.specs.PlanParts.{declared_part};
 ghost use Rattle.step_kinds.specs.Limits.{most_script_bytes};
-ghost use Rattle.plan_model.specs.Switches.{IsMakeable};
-ghost use Rattle.plan_model.specs.TrafficPlans.{IsWhole};
+ghost use Rattle.pair_model.specs.Switches.{IsMakeable};
+ghost use Rattle.pair_model.specs.TrafficPlans.{IsWhole};
 ghost use Rattle.cluster_core.specs.Cluster.{plan_held};
 
 use cluster_core::Cluster;

@@ -4,7 +4,7 @@ use Rattle.std.proofs.lemmas.List.Elements.{All-nil, All-push, All-weaker}
 use Rattle.std.specs.List.{All}
 use Rattle.step_kinds.specs.declared.plan.Plan.{Plan}
 use Rattle.step_kinds.specs.declared.steps.Step.{Step}
-use Rattle.plan_model.specs.DeclaredPlans.{IsPairOf}
+use Rattle.pair_model.specs.DeclaredPlans.{IsPairOf}
 use Rattle.explore_model.specs.Outcomes.{IsOutcome}
 use Rattle.explore_model.specs.Schedules.{Runs, begun, goes_on, lands}
 use Rattle.explore_model.specs.declared.outcome.Landing.{Landing}

@@ -2,7 +2,7 @@
 
 ghost use Rattle.std.specs.Prelude.{◌≤◌, IfOk, Ok, length};
 ghost use Rattle.step_kinds.specs.Limits.{most_script_bytes};
-ghost use Rattle.plan_model.specs.TrafficPlans.{IsWhole};
+ghost use Rattle.pair_model.specs.TrafficPlans.{IsWhole};
 ghost use Rattle.explore_command.specs.Answers.{ExploresTo, IsExploreOf};
 
 use crate::machine::PathCluster;

@@ -22,7 +22,7 @@ ghost use Rattle.explore_model.specs.Texts.{
 };
 ghost use Rattle.explore_model.specs.declared.outcome.Landing.{Landing as LandingValue};
 ghost use Rattle.explore_model.specs.declared.outcome.Outcome.{Outcome as OutcomeValue};
-ghost use Rattle.plan_model.specs.DeclaredPlans.{IsPairOf};
+ghost use Rattle.pair_model.specs.DeclaredPlans.{IsPairOf};
 ghost use Rattle.report_text.specs.Report.{side_text};
 
 use explore_model::{Landing, Outcome};

@@ -9,8 +9,8 @@ use Rattle.step_kinds.specs.declared.steps.Step.TheVariants.{Begin, Post, ShowQu
 use Rattle.ledger_model.specs.Examples.{letter, small_pair}
 use Rattle.report_text.specs.Report.{line_of}
 use Rattle.explore_model.specs.Outcomes.{IsOutcome, answers_cmp}
-use Rattle.memory_model.specs.Memory.{memory_of}
-use Rattle.switch_log.specs.Log.{answer_after}
+use Rattle.ledger_model.specs.Memory.{memory_of}
+use Rattle.ledger_model.specs.NetworkLog.{answer_after}
 use Rattle.explore_model.specs.Schedules.{is_landed, landing_step}
 use Rattle.explore_model.specs.Texts.{explored_text, landing_line}
 use Rattle.explore_model.specs.declared.outcome.Landing.{Landing}

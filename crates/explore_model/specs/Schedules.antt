@@ -5,9 +5,9 @@ use Rattle.step_kinds.specs.declared.steps.Answer.{Answer}
 use Rattle.step_kinds.specs.declared.steps.Answer.TheVariants.{Landed}
 use Rattle.step_kinds.specs.declared.steps.Step.{Step}
 use Rattle.step_kinds.specs.declared.steps.Step.TheVariants.{Land}
-use Rattle.plan_model.specs.DeclaredPlans.{IsPairOf}
-use Rattle.memory_model.specs.Memory.{memory_of}
-use Rattle.switch_log.specs.Log.{answer_after}
+use Rattle.pair_model.specs.DeclaredPlans.{IsPairOf}
+use Rattle.ledger_model.specs.Memory.{memory_of}
+use Rattle.ledger_model.specs.NetworkLog.{answer_after}
 use Rattle.report_text.specs.Texts.{answer_text}
 use Rattle.explore_model.specs.declared.outcome.Landing.{Landing}
 

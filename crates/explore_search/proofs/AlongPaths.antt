@@ -5,7 +5,7 @@ use Rattle.std.proofs.lemmas.List.{get_or-drop, get_or-map, length-map, take_all
 use Rattle.std.proofs.lemmas.List.Elements.{All-head, All-tail}
 use Rattle.std.proofs.lemmas.List.Sums.{fold_more, fold_push}
 use Rattle.std.proofs.lemmas.Bool.{cases_lt}
-use Rattle.plan_model.specs.PlanParts.{steps_in}
+use Rattle.pair_model.specs.PlanParts.{steps_in}
 use Rattle.step_kinds.specs.declared.plan.Line.{Line}
 use Rattle.step_kinds.specs.declared.plan.Plan.{Plan}
 use Rattle.step_kinds.specs.declared.steps.Step.{Step}

@@ -11,9 +11,9 @@ use Rattle.step_kinds.specs.declared.plan.Plan.{Plan}
 use Rattle.step_kinds.specs.declared.steps.Answer.TheVariants.{Nothing}
 use Rattle.step_kinds.specs.declared.steps.Step.{Step}
 use Rattle.step_kinds.specs.declared.steps.Step.TheVariants.{Land}
-use Rattle.plan_model.specs.DeclaredPlans.{IsPairOf}
-use Rattle.memory_model.specs.Memory.{memory_of}
-use Rattle.switch_log.specs.Log.{answer_after}
+use Rattle.pair_model.specs.DeclaredPlans.{IsPairOf}
+use Rattle.ledger_model.specs.Memory.{memory_of}
+use Rattle.ledger_model.specs.NetworkLog.{answer_after}
 use Rattle.explore_model.specs.declared.outcome.Landing.{Landing}
 use Rattle.explore_search.specs.Machines.{HaveSameSteps}
 use Rattle.explore_search.specs.Spread.{AreAdded, AreTried, IsNext, IsOfSide}

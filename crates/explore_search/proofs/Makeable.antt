@@ -2,11 +2,11 @@
 use Rattle.std.proofs.Common.{◌≡◌, List, [], inl, subst, sym}
 use Rattle.std.specs.List.{All}
 use Rattle.std.proofs.lemmas.List.Elements.{All-weaker}
-use Rattle.plan_model.specs.PlanParts.{declared_part}
+use Rattle.pair_model.specs.PlanParts.{declared_part}
 use Rattle.step_kinds.specs.declared.plan.Line.{Line}
 use Rattle.step_kinds.specs.declared.plan.Plan.{Plan}
-use Rattle.plan_model.specs.Switches.{IsMakeable}
-use Rattle.plan_model.proofs.Facade.{makeable_by_other}
+use Rattle.pair_model.specs.Switches.{IsMakeable}
+use Rattle.pair_model.proofs.Facade.{makeable_by_other}
 use Rattle.explore_model.specs.Schedules.{IsLanding, landing_step}
 use Rattle.explore_model.specs.declared.outcome.Landing.{Landing}
 

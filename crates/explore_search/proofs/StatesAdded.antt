@@ -6,8 +6,8 @@ use Rattle.std.proofs.lemmas.List.Elements.{All-push}
 use Rattle.std.proofs.lemmas.List.Quantifiers.{all_pairs_push}
 use Rattle.step_kinds.specs.declared.plan.Plan.{Plan}
 use Rattle.step_kinds.specs.declared.steps.Step.{Step}
-use Rattle.memory_model.specs.Memory.{memory_of}
-use Rattle.switch_log.specs.Log.{answer_after}
+use Rattle.ledger_model.specs.Memory.{memory_of}
+use Rattle.ledger_model.specs.NetworkLog.{answer_after}
 use Rattle.explore_model.specs.Schedules.{Runs, is_landed, landing_step, lands}
 use Rattle.explore_model.specs.declared.outcome.Landing.{Landing}
 use Rattle.explore_search.specs.Machines.{HaveSameSteps}

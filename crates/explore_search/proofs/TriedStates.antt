@@ -4,8 +4,8 @@ use Rattle.std.specs.List.{HoldsAt}
 use Rattle.std.proofs.lemmas.List.{get_or_read}
 use Rattle.step_kinds.specs.declared.plan.Plan.{Plan}
 use Rattle.step_kinds.specs.declared.steps.Step.{Step}
-use Rattle.memory_model.specs.Memory.{memory_of}
-use Rattle.switch_log.specs.Log.{answer_after}
+use Rattle.ledger_model.specs.Memory.{memory_of}
+use Rattle.ledger_model.specs.NetworkLog.{answer_after}
 use Rattle.explore_model.specs.Schedules.{landing_step}
 use Rattle.explore_model.specs.declared.outcome.Landing.{Landing}
 use Rattle.explore_search.specs.Spread.{AreTried, IsSpread, Lands}

@@ -4,9 +4,9 @@ use Rattle.std.specs.List.{All, fold}
 use Rattle.step_kinds.specs.declared.plan.Line.{Line}
 use Rattle.step_kinds.specs.declared.plan.Plan.{Plan}
 use Rattle.step_kinds.specs.declared.steps.Step.{Step}
-use Rattle.plan_model.specs.PlanParts.{steps_in}
-use Rattle.plan_model.specs.DeclaredPlans.{IsDeclared}
-use Rattle.plan_model.specs.Switches.{AreSwitches, IsMakeable}
+use Rattle.pair_model.specs.PlanParts.{steps_in}
+use Rattle.pair_model.specs.DeclaredPlans.{IsDeclared}
+use Rattle.pair_model.specs.Switches.{AreSwitches, IsMakeable}
 use Rattle.explore_model.specs.Schedules.{IsLanding, landing_step}
 use Rattle.explore_model.specs.declared.outcome.Landing.{Landing}
 

@@ -1,7 +1,7 @@
 -- The states of a search, all after the same number of a script's steps.
 use Rattle.std.specs.Prelude.{◌≡◌, ℕ, IfSome, List, Option, [], ◌∷◌, ◌++◌, take}
 use Rattle.std.specs.List.{All, AllPairs, Any}
-use Rattle.plan_model.specs.PlanParts.{declared_part}
+use Rattle.pair_model.specs.PlanParts.{declared_part}
 use Rattle.step_kinds.specs.declared.plan.Plan.{Plan}
 use Rattle.step_kinds.specs.declared.steps.Step.{Step}
 use Rattle.explore_model.specs.Schedules.{Runs}

@@ -2,7 +2,7 @@
 
 ghost use Rattle.std.specs.Prelude.{◌≡◌, ◌<◌, IfOk, IfSome, IsTrue, length};
 ghost use Rattle.std.specs.List.{All, Any, HoldsAt};
-ghost use Rattle.plan_model.specs.DeclaredPlans.{IsPairOf};
+ghost use Rattle.pair_model.specs.DeclaredPlans.{IsPairOf};
 ghost use Rattle.explore_search.specs.Known.{AreOfPlan, IsLandedIn};
 ghost use Rattle.explore_search.specs.Paths.{IsExplorable};
 ghost use Rattle.explore_search.specs.Spread.{IsNext, Lands};

@@ -1,16 +1,16 @@
 //! What a search needs of a machine.
 
 ghost use Rattle.std.specs.Prelude.{◌≡◌, ◌≤◌, ◌∷◌, ◌++◌, ℕ, [], false, true, IfOk, IsTrue, List, OnOk};
-ghost use Rattle.plan_model.specs.PlanParts.{declared_part};
+ghost use Rattle.pair_model.specs.PlanParts.{declared_part};
 ghost use Rattle.step_kinds.specs.declared.plan.Plan.{Plan as PlanValue};
 ghost use Rattle.step_kinds.specs.declared.steps.Answer.TheVariants.{Nothing};
 ghost use Rattle.step_kinds.specs.declared.steps.Step.{Step as StepValue};
 ghost use Rattle.step_kinds.specs.declared.steps.Step.TheVariants.{Land};
-ghost use Rattle.plan_model.specs.DeclaredPlans.{IsDeclared, IsPairOf};
-ghost use Rattle.plan_model.specs.Switches.{AreSwitches, IsMakeable};
+ghost use Rattle.pair_model.specs.DeclaredPlans.{IsDeclared, IsPairOf};
+ghost use Rattle.pair_model.specs.Switches.{AreSwitches, IsMakeable};
 ghost use Rattle.explore_model.specs.declared.outcome.Landing.{Landing as LandingValue};
-ghost use Rattle.memory_model.specs.Memory.{memory_of};
-ghost use Rattle.switch_log.specs.Log.{answer_after};
+ghost use Rattle.ledger_model.specs.Memory.{memory_of};
+ghost use Rattle.ledger_model.specs.NetworkLog.{answer_after};
 ghost use Rattle.explore_model.specs.Schedules.{is_landed, landing_step};
 ghost use Rattle.explore_search.specs.Machines.{HaveSameKeys, HaveSameSteps};
 

@@ -2,10 +2,10 @@
 
 ghost use Rattle.std.specs.Prelude.{◌≡◌, ◌≤◌, ◌++◌, IfOk, List, OnOk, length};
 ghost use Rattle.std.specs.List.{All};
-ghost use Rattle.plan_model.specs.PlanParts.{declared_part, steps_in};
+ghost use Rattle.pair_model.specs.PlanParts.{declared_part, steps_in};
 ghost use Rattle.step_kinds.specs.declared.plan.Plan.{Plan as PlanValue};
 ghost use Rattle.step_kinds.specs.declared.steps.Step.{Step as StepValue};
-ghost use Rattle.plan_model.specs.Switches.{IsMakeable};
+ghost use Rattle.pair_model.specs.Switches.{IsMakeable};
 ghost use Rattle.explore_search.specs.Paths.{IsExplorable, IsLandingBy, between, path, script_of};
 
 use crate::machine::Machine;

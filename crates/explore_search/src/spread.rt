@@ -2,8 +2,8 @@
 
 ghost use Rattle.std.specs.Prelude.{◌≡◌, ◌≤◌, ◌<◌, ◌↔◌, ◌++◌, ◌∷◌, [], IfOk, IsTrue, OnOk, length};
 ghost use Rattle.std.specs.List.{All, HoldsAt};
-ghost use Rattle.plan_model.specs.PlanParts.{declared_part};
-ghost use Rattle.plan_model.specs.DeclaredPlans.{IsPairOf};
+ghost use Rattle.pair_model.specs.PlanParts.{declared_part};
+ghost use Rattle.pair_model.specs.DeclaredPlans.{IsPairOf};
 ghost use Rattle.explore_search.specs.Paths.{IsExplorable};
 ghost use Rattle.explore_search.specs.Spread.{AreAdded, AreClosed, IsNext, IsOfSide, IsSpread, Lands};
 ghost use Rattle.explore_search.specs.States.{HaveGrown, IsMachineAt, IsSpareOf, IsState, made_to};

@@ -2,7 +2,7 @@
 
 ghost use Rattle.std.specs.Prelude.{◌≡◌, ◌≤◌, ◌<◌, ◌↔◌, ◌∷◌, ◌++◌, [], IfOk, IfSome, IsTrue, List, OnErr, OnOk, length, slice_index_or};
 ghost use Rattle.std.specs.List.{All};
-ghost use Rattle.plan_model.specs.PlanParts.{declared_part};
+ghost use Rattle.pair_model.specs.PlanParts.{declared_part};
 ghost use Rattle.step_kinds.specs.declared.steps.Step.{Step as StepValue};
 ghost use Rattle.explore_search.specs.Chains.{AreChained, HasPushed, IsLast};
 ghost use Rattle.explore_search.specs.Paths.{IsExplorable, IsLandingBy, path, script_of};

@@ -8,8 +8,8 @@ use Rattle.step_kinds.specs.declared.steps.Answer.{Answer}
 use Rattle.step_kinds.specs.declared.steps.Answer.TheVariants.{OkNumber}
 use Rattle.plan_numbers.specs.Memories.{memory_size}
 use Rattle.bridge_pair.specs.Bridge.{Bridge, bytes_of}
-use Rattle.byte_model.specs.Addresses.{own_index_word}
-use Rattle.byte_model.specs.Headers.{free_in_memory, index_word_in}
+use Rattle.pair_model.specs.Addresses.{own_index_word}
+use Rattle.pair_model.specs.Headers.{free_in_memory, index_word_in}
 use Rattle.host_memory.specs.Memory.{bytes_at}
 use Rattle.frame_ring.specs.Calls.{begin_answer as port_begin_answer, frame_begun, free_answer, head_seen, sizes_seen, where_begun}
 use Rattle.frame_ring.specs.Port.{PortState}
@@ -21,7 +21,7 @@ use Rattle.fabric_rule.specs.Answers.{of_begin, of_xbegin}
 use Rattle.fabric_rule.specs.Parts.{QueuePart, one_more, plain_bridge}
 use Rattle.fabric_core.specs.QueueCalls.{IsBegun, is_begun, counted_begun, refused_once}
 use Rattle.fabric_core.proofs.QueueParts.{not_begun}
-use Rattle.plan_model.specs.Ethernet.{ethernet_frame}
+use Rattle.pair_model.specs.Ethernet.{ethernet_frame}
 use Rattle.fabric_rule.specs.Turns.{accepted_where_begun, begin_turn, frame_answer, frame_turn, xbegun}
 
 -- Free entries depend on bytes alone

@@ -10,7 +10,7 @@ use Rattle.step_kinds.specs.declared.steps.Answer.{Answer}
 use Rattle.step_kinds.specs.declared.steps.Answer.TheVariants.{Delivered}
 use Rattle.step_kinds.specs.declared.steps.Step.{Step}
 use Rattle.step_kinds.specs.declared.steps.Step.TheVariants.{Copy}
-use Rattle.plan_model.specs.DeclaredPlans.{IsQueueOf}
+use Rattle.pair_model.specs.DeclaredPlans.{IsQueueOf}
 use Rattle.frame_ring.specs.Calls.{copy_answer, frame_due as due_at_port, frame_of_copy}
 use Rattle.fabric_rule.specs.Answers.{of_copy}
 use Rattle.fabric_rule.specs.Parts.{queue_of}

@@ -6,8 +6,8 @@ use Rattle.step_kinds.specs.declared.names.Side.TheVariants.{A, B}
 use Rattle.step_kinds.specs.declared.plan.DevPlan.{DevPlan}
 use Rattle.step_kinds.specs.declared.plan.PairPlan.{PairPlan}
 use Rattle.step_kinds.specs.declared.plan.Plan.{Plan}
-use Rattle.plan_model.specs.DeclaredPlans.{IsDeclared}
-use Rattle.plan_model.specs.Plans.{pair_plan}
+use Rattle.pair_model.specs.DeclaredPlans.{IsDeclared}
+use Rattle.pair_model.specs.Plans.{pair_plan}
 use Rattle.bridge_pair.specs.Bridge.{pages_of}
 use Rattle.fabric_rule.specs.Laws.{IsFreshPair}
 use Rattle.fabric_rule.specs.Parts.{PairState}

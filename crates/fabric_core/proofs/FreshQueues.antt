@@ -4,8 +4,8 @@ use Rattle.std.proofs.lemmas.List.{get_or_append_left, get_or_push, length-appen
 use Rattle.step_kinds.specs.declared.names.Side.{Side}
 use Rattle.step_kinds.specs.declared.plan.DevPlan.{DevPlan}
 use Rattle.step_kinds.specs.declared.plan.PairPlan.{PairPlan}
-use Rattle.plan_model.specs.Both.{Both}
-use Rattle.plan_model.specs.Plans.{dev_plan, side_plan}
+use Rattle.pair_model.specs.Both.{Both}
+use Rattle.pair_model.specs.Plans.{dev_plan, side_plan}
 use Rattle.bridge_pair.specs.Bridge.{Bridge, flight_of}
 use Rattle.bridge_pair.specs.Fresh.{fresh_bridge}
 use Rattle.frame_ring.specs.Port.{fresh_port}

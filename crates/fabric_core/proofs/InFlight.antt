@@ -12,7 +12,7 @@ use Rattle.step_kinds.specs.declared.steps.Answer.TheVariants.{Nothing}
 use Rattle.step_kinds.specs.declared.steps.Label.{Label}
 use Rattle.step_kinds.specs.declared.steps.Step.TheVariants.{Land}
 use Rattle.order_rules.specs.Order.{may_land}
-use Rattle.plan_model.specs.DeclaredPlans.{IsPairOf}
+use Rattle.pair_model.specs.DeclaredPlans.{IsPairOf}
 use Rattle.posted_queue.specs.Landing.{answer_for}
 use Rattle.bridge_pair.specs.Bridge.{Bridge, flight_of}
 use Rattle.bridge_pair.specs.Calls.{landing}

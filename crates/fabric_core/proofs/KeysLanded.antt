@@ -12,8 +12,8 @@ use Rattle.step_kinds.specs.declared.plan.Plan.{Plan}
 use Rattle.step_kinds.specs.declared.steps.Answer.TheVariants.{Landed}
 use Rattle.step_kinds.specs.declared.steps.Step.{Step}
 use Rattle.step_kinds.specs.declared.steps.Step.TheVariants.{Land}
-use Rattle.plan_model.specs.Both.{Both, with_side}
-use Rattle.plan_model.specs.DeclaredPlans.{IsPairOf, IsPermitted}
+use Rattle.pair_model.specs.Both.{Both, with_side}
+use Rattle.pair_model.specs.DeclaredPlans.{IsPairOf, IsPermitted}
 use Rattle.posted_queue.specs.Flight.{Flight}
 use Rattle.posted_queue.specs.Landing.{after_landing, answer_for}
 use Rattle.posted_queue.specs.declared.LandAnswer.{LandAnswer}

@@ -11,7 +11,7 @@ use Rattle.step_kinds.specs.declared.steps.Label.{Label}
 use Rattle.step_kinds.specs.declared.steps.Step.{Step}
 use Rattle.step_kinds.specs.declared.steps.Step.TheVariants.{Land}
 use Rattle.ledger_model.specs.Log.{Answered}
-use Rattle.plan_model.specs.DeclaredPlans.{IsPairOf}
+use Rattle.pair_model.specs.DeclaredPlans.{IsPairOf}
 use Rattle.posted_queue.specs.declared.LandAnswer.{LandAnswer}
 use Rattle.posted_queue.specs.declared.LandAnswer.TheVariants as landing_answer
 use Rattle.posted_queue.specs.Landing.{after_landing}

@@ -7,13 +7,13 @@ use Rattle.step_kinds.specs.declared.names.Side.TheVariants.{A, B}
 use Rattle.step_kinds.specs.declared.plan.DevPlan.{DevPlan}
 use Rattle.step_kinds.specs.declared.plan.Plan.{Plan}
 use Rattle.step_kinds.specs.declared.steps.Step.{Step}
-use Rattle.plan_model.specs.DeclaredPlans.{IsPairOf, IsQueueOf}
-use Rattle.plan_model.specs.Plans.{dev_plan, pair_plan}
+use Rattle.pair_model.specs.DeclaredPlans.{IsPairOf, IsQueueOf}
+use Rattle.pair_model.specs.Plans.{dev_plan, pair_plan}
 use Rattle.ledger_laws.proofs.Facade.{counters_are_counts, sessions_are_counts, tallies_are_counts}
 use Rattle.ledger_model.specs.Ledger.{PairPart, Tally, dev_of, tally_of}
 use Rattle.ledger_model.specs.Log.{accepted, counters_in, delivered, first_session, lane_of_device, trains}
-use Rattle.memory_model.specs.Memory.{memory_of, site_of}
-use Rattle.byte_laws.proofs.Facade.{sites_are_the_ledger}
+use Rattle.ledger_model.specs.Memory.{memory_of, site_of}
+use Rattle.ledger_laws.proofs.Facade.{sites_are_the_ledger}
 use Rattle.bridge_pair.specs.Bridge.{Bridge}
 use Rattle.fabric_rule.specs.Parts.{queue_of}
 use Rattle.fabric_rule.specs.StandsFor.{QueueStands, has_forgotten, view_of}

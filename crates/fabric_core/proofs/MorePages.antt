@@ -8,7 +8,7 @@ use Rattle.hand_shake.specs.Checks.{after_answer, after_check, check_answer}
 use Rattle.hand_shake.specs.Offers.{with_posted}
 use Rattle.hand_shake.specs.declared.CheckAnswer.{CheckAnswer}
 use Rattle.hand_shake.specs.declared.CheckAnswer.TheVariants.{Up}
-use Rattle.plan_model.specs.Link.{is_up}
+use Rattle.pair_model.specs.Link.{is_up}
 use Rattle.fabric_core.specs.Promises.{HasMorePages, with_promised}
 use Rattle.fabric_rule.specs.Turns.{posted_aside}
 

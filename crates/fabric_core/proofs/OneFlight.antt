@@ -5,10 +5,10 @@ use Rattle.step_kinds.specs.declared.names.Side.{Side}
 use Rattle.step_kinds.specs.declared.names.Side.TheVariants.{A, B}
 use Rattle.step_kinds.specs.declared.steps.Label.{Label}
 use Rattle.step_kinds.specs.declared.steps.Label.TheVariants.{Chunk, Len, Ver, Flag, Down, Bell, Index, Pad, Raw}
-use Rattle.byte_model.specs.RingWrites.{WindowWrite, index_write}
+use Rattle.pair_model.specs.RingWrites.{WindowWrite, index_write}
 use Rattle.lane_model.specs.Lane.{Entry}
 use Rattle.lane_model.specs.Tests.{is_cleared, is_copied}
-use Rattle.plan_model.specs.Link.{is_up}
+use Rattle.pair_model.specs.Link.{is_up}
 use Rattle.posted_queue.specs.Flight.{Flight, given_back}
 use Rattle.bridge_pair.specs.Bridge.{Bridge, flight_of, pages_of, with_bytes, with_flight}
 use Rattle.bridge_pair.specs.Ends.{after_posting}

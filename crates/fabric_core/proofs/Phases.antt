@@ -5,7 +5,7 @@ use Rattle.step_kinds.specs.declared.lanes.LaneCopy.TheVariants.{Part, Whole, Ou
 use Rattle.lane_model.specs.Tests.{is_cleared, is_copied, is_copying, is_idle}
 use Rattle.lane_model.specs.declared.Phase.TheVariants.{Idle, Copied, Cleared}
 use Rattle.bridge_pair.specs.Bridge.{Bridge}
-use Rattle.byte_model.specs.Headers.{Found, NoEntry, ALinkDownEntry, AnotherVersion, TooManyBytes, AnEntry}
+use Rattle.pair_model.specs.Headers.{Found, NoEntry, ALinkDownEntry, AnotherVersion, TooManyBytes, AnEntry}
 use Rattle.frame_ring.specs.Calls.{after_ack, after_clear, after_copy, after_look as port_after_look, after_post, copy_answer, entry_found, found_seen, gathered_next, look_found, more_entries, more_parts, part_answer, part_copied}
 use Rattle.frame_ring.specs.Port.{PortState, Receiving, with_receiving}
 use Rattle.frame_ring.specs.declared.RingLook.TheVariants.{OutOfTurn as RingOutOfTurn}

@@ -7,7 +7,7 @@ use Rattle.step_kinds.specs.declared.lanes.Begun.TheVariants.{Ok as BegunOk}
 use Rattle.step_kinds.specs.declared.names.Side.{Side}
 use Rattle.step_kinds.specs.declared.names.Side.TheVariants.{A, B}
 use Rattle.step_kinds.specs.declared.plan.PairPlan.{PairPlan}
-use Rattle.byte_model.specs.RingWrites.{WindowWrite, entry_write}
+use Rattle.pair_model.specs.RingWrites.{WindowWrite, entry_write}
 use Rattle.bridge_pair.specs.Bridge.{Bridge, flight_of, pages_of, with_pages}
 use Rattle.bridge_pair.specs.Pages.{PagesGrow}
 use Rattle.fabric_rule.specs.Parts.{QueuePart, plain_bridge}

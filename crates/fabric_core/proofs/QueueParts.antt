@@ -4,7 +4,7 @@ use Rattle.step_kinds.specs.declared.lanes.LaneCopy.{LaneCopy}
 use Rattle.step_kinds.specs.declared.lanes.LaneCopy.TheVariants.{Whole}
 use Rattle.step_kinds.specs.declared.plan.Counters.{Counters}
 use Rattle.lane_model.specs.Tests.{is_copying}
-use Rattle.plan_model.specs.Device.{Flow}
+use Rattle.pair_model.specs.Device.{Flow}
 use Rattle.bridge_pair.specs.Bridge.{Bridge, flight_of}
 use Rattle.frame_ring.specs.Calls.{after_copy}
 use Rattle.frame_ring.specs.Port.{PortState, unused_of}

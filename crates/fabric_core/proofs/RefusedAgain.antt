@@ -12,19 +12,19 @@ use Rattle.step_kinds.specs.declared.steps.Answer.{Answer}
 use Rattle.step_kinds.specs.declared.steps.Answer.TheVariants.{Up, Landed, Cleared}
 use Rattle.step_kinds.specs.declared.steps.Step.{Step}
 use Rattle.step_kinds.specs.declared.steps.Step.TheVariants.{Check, Clear, Land, Xbegin}
-use Rattle.plan_model.specs.Both.{Both}
-use Rattle.plan_model.specs.DeclaredPlans.{IsPermitted}
-use Rattle.plan_model.specs.Plans.{pair_plan}
-use Rattle.byte_model.specs.Stores.{Store}
+use Rattle.pair_model.specs.Both.{Both}
+use Rattle.pair_model.specs.DeclaredPlans.{IsPermitted}
+use Rattle.pair_model.specs.Plans.{pair_plan}
+use Rattle.pair_model.specs.Stores.{Store}
 use Rattle.ledger_model.specs.Ledger.{PairPart}
 use Rattle.ledger_model.specs.Log.{ledger_of}
 use Rattle.ledger_model.specs.Next.{pair_next}
 use Rattle.ledger_model.specs.Outcome.{Outcome}
-use Rattle.memory_model.specs.Memory.{Site, bytes_of_site, memory_of, site_of, stores_by}
+use Rattle.ledger_model.specs.Memory.{Site, bytes_of_site, memory_of, site_of, stores_by}
 use Rattle.ledger_laws.specs.Laws.{after_refusal}
 use Rattle.step_kinds.specs.Answers.{is_made}
 use Rattle.ledger_laws.proofs.Facade.{answer_of, refusals_change_nothing}
-use Rattle.byte_laws.proofs.Facade.{same_outcome, site_of-elsewhere, site_of-here, site_outcome, sites_are_the_ledger}
+use Rattle.ledger_laws.proofs.Facade.{same_outcome, site_of-elsewhere, site_of-here, site_outcome, sites_are_the_ledger}
 use Rattle.fabric_rule.specs.StandsFor.{PairStands}
 use Rattle.fabric_core.specs.Fabric.{pair_of}
 use Rattle.fabric_core.specs.LogClauses.{IsAnswered}

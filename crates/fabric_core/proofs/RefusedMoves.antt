@@ -22,11 +22,11 @@ use Rattle.lane_model.specs.Tests.{is_cleared, is_copied, is_copying}
 use Rattle.lane_model.specs.declared.Phase.TheVariants.{Cleared, Idle}
 use Rattle.lane_model.specs.declared.Write.{Write}
 use Rattle.lane_model.specs.declared.Write.TheVariants.{Flag as EntryFlag, Bell as QueueBell}
-use Rattle.plan_model.specs.Ethernet.{ethernet_frame}
-use Rattle.plan_model.specs.Labels.{label_of}
-use Rattle.plan_model.specs.Link.{clean_refusal, cut_link, cut_refusal, drop_refusal, enable_refusal, enabled_link, train_refusal, trained_link}
-use Rattle.plan_model.specs.Plans.{dev_plan}
-use Rattle.plan_model.specs.declared.LinkRefusal.{LinkRefusal}
+use Rattle.pair_model.specs.Ethernet.{ethernet_frame}
+use Rattle.pair_model.specs.Labels.{label_of}
+use Rattle.pair_model.specs.Link.{clean_refusal, cut_link, cut_refusal, drop_refusal, enable_refusal, enabled_link, train_refusal, trained_link}
+use Rattle.pair_model.specs.Plans.{dev_plan}
+use Rattle.pair_model.specs.declared.LinkRefusal.{LinkRefusal}
 use Rattle.order_rules.specs.Order.{lands_behind, may_land}
 use Rattle.posted_queue.specs.Landing.{answer_for}
 use Rattle.bridge_pair.specs.Bridge.{Bridge, flight_of, with_flight, with_link}

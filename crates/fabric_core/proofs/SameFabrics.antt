@@ -9,9 +9,9 @@ use Rattle.step_kinds.specs.declared.steps.Label.{Label}
 use Rattle.step_kinds.specs.declared.steps.Step.{Step}
 use Rattle.lane_model.specs.Lane.{Entry}
 use Rattle.lane_model.specs.Tests.{is_empty_list}
-use Rattle.plan_model.specs.Link.{Link}
-use Rattle.plan_model.specs.Plans.{pair_plan}
-use Rattle.memory_model.specs.Memory.{Site, site_of}
+use Rattle.pair_model.specs.Link.{Link}
+use Rattle.pair_model.specs.Plans.{pair_plan}
+use Rattle.ledger_model.specs.Memory.{Site, site_of}
 use Rattle.bridge_pair.specs.Bridge.{Bridge}
 use Rattle.frame_ring.specs.Port.{PortState, Receiving, Sending}
 use Rattle.frame_ring.specs.Same.{IsSamePort}

@@ -6,9 +6,9 @@ use Rattle.std.proofs.lemmas.List.{get_or-map, get_or_default, length-map}
 use Rattle.step_kinds.specs.declared.names.Side.{Side}
 use Rattle.step_kinds.specs.declared.names.Side.TheVariants.{A, B}
 use Rattle.step_kinds.specs.declared.plan.PairPlan.{PairPlan}
-use Rattle.plan_model.specs.Both.{Both}
-use Rattle.plan_model.specs.Link.{Link}
-use Rattle.plan_model.specs.Plans.{side_plan}
+use Rattle.pair_model.specs.Both.{Both}
+use Rattle.pair_model.specs.Link.{Link}
+use Rattle.pair_model.specs.Plans.{side_plan}
 use Rattle.bridge_regs.specs.Doorbell.{Doorbell}
 use Rattle.bridge_pair.specs.Bridge.{Bridge, flight_of, bytes_of}
 use Rattle.bridge_pair.specs.Flights.{Flying}

@@ -15,17 +15,17 @@ use Rattle.step_kinds.specs.declared.steps.Answer.{Answer}
 use Rattle.step_kinds.specs.declared.steps.Answer.TheVariants.{Up}
 use Rattle.step_kinds.specs.declared.steps.Step.{Step}
 use Rattle.step_kinds.specs.declared.steps.Step.TheVariants.{Check, Ready, Join, Begin, QpDown, Xbegin, Post, Look, Copy, Clear, Ack, Wake, Spad, Poke, ShowMem, ShowPad, Relay, Xnext}
-use Rattle.plan_model.specs.Both.{Both, at_side}
-use Rattle.plan_model.specs.DeclaredPlans.{Agree, IsDeclared, IsPair, IsPairOf, IsPermitted, IsPoke, IsQueueOf, IsShown, SizesFit}
-use Rattle.plan_model.specs.Plans.{no_pair, pair_plan, side_plan}
-use Rattle.plan_model.proofs.Facade.{permitted_by_other, queue_of_other}
+use Rattle.pair_model.specs.Both.{Both, at_side}
+use Rattle.pair_model.specs.DeclaredPlans.{Agree, IsDeclared, IsPair, IsPairOf, IsPermitted, IsPoke, IsQueueOf, IsShown, SizesFit}
+use Rattle.pair_model.specs.Plans.{no_pair, pair_plan, side_plan}
+use Rattle.pair_model.proofs.Facade.{permitted_by_other, queue_of_other}
 use Rattle.ledger_laws.proofs.Facade.{answers_are_right, are_ordinary, has_sides, joined_means_agreement, laws_hold, log_of-last, no_ordinary_ver_differs_or_long, up_means_agreement}
 use Rattle.step_kinds.specs.Answers.{is_made}
 use Rattle.ledger_model.specs.Ledger.{PairPart, side_of}
 use Rattle.ledger_model.specs.Log.{ledger_of}
 use Rattle.ledger_model.specs.Next.{pair_next}
-use Rattle.memory_model.specs.Memory.{Site, bytes_of_site, memory_of, site_of}
-use Rattle.byte_laws.proofs.Facade.{memories_keep_pairs_apart, site_of-elsewhere, sites_are_the_ledger, steps_of_log}
+use Rattle.ledger_model.specs.Memory.{Site, bytes_of_site, memory_of, site_of}
+use Rattle.ledger_laws.proofs.Facade.{memories_keep_pairs_apart, site_of-elsewhere, sites_are_the_ledger, steps_of_log}
 use Rattle.bridge_pair.specs.Bridge.{Bridge, book_of}
 use Rattle.plan_numbers.specs.Memories.{WindowsFit}
 use Rattle.frame_ring.specs.PortView.{FitsRings}

@@ -12,8 +12,8 @@ use Rattle.step_kinds.specs.declared.places.BridgeStep.TheVariants.{Enable, Trai
 use Rattle.step_kinds.specs.declared.places.QueueStep.TheVariants.{Begin, Xbegin}
 use Rattle.step_kinds.specs.declared.places.StepPlace.{StepPlace}
 use Rattle.step_kinds.specs.declared.places.StepPlace.TheVariants.{OnQueue, OnBridge}
-use Rattle.plan_model.specs.Link.{is_up}
-use Rattle.plan_model.specs.Pads.{links_pad, pad_index}
+use Rattle.pair_model.specs.Link.{is_up}
+use Rattle.pair_model.specs.Pads.{links_pad, pad_index}
 use Rattle.bridge_pair.specs.Bridge.{Bridge, book_of, flight_of, with_book, with_bytes}
 use Rattle.bridge_pair.specs.Laws.{KeepsPromises}
 use Rattle.bridge_pair.specs.Writes.{PostedWrite, memory_write, pad_write}

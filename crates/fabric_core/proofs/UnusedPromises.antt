@@ -6,7 +6,7 @@ use Rattle.step_kinds.specs.declared.lanes.Begun.TheVariants.{Ok as BegunOk, Too
 use Rattle.step_kinds.specs.declared.steps.Label.{Label}
 use Rattle.lane_model.specs.Lane.{Entry}
 use Rattle.lane_model.specs.Tests.{is_empty_list, is_idle}
-use Rattle.plan_model.specs.Sizes.{pieces_in}
+use Rattle.pair_model.specs.Sizes.{pieces_in}
 use Rattle.bridge_pair.specs.Bridge.{Bridge}
 use Rattle.frame_ring.specs.Calls.{after_look as port_after_look, begin_answer as port_begin_answer, down_answer, down_begun, entry_found, found_seen, frame_begun, room_answer, sizes_seen, where_begun}
 use Rattle.frame_ring.specs.Port.{PortState, Receiving, Sending, is_busy, left_of_entry, unused_of, with_receiving, with_sending, writes_from, writes_left}

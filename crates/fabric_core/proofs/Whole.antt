@@ -8,7 +8,7 @@ use Rattle.step_kinds.specs.Sides.{other_side}
 use Rattle.step_kinds.specs.declared.names.Side.{Side}
 use Rattle.step_kinds.specs.declared.names.Side.TheVariants.{A, B}
 use Rattle.step_kinds.specs.declared.plan.PairPlan.{PairPlan}
-use Rattle.plan_model.specs.Plans.{side_plan}
+use Rattle.pair_model.specs.Plans.{side_plan}
 use Rattle.bridge_pair.specs.Bridge.{Bridge, flight_of, pages_of}
 use Rattle.fabric_rule.specs.Parts.{PairState, QueuePart, no_queue, queue_of, queues_of, with_bridge}
 use Rattle.frame_ring.specs.Port.{PortState, fresh_port, unused_of}

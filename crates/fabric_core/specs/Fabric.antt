@@ -13,8 +13,8 @@ use Rattle.step_kinds.specs.declared.plan.Plan.{Plan}
 use Rattle.step_kinds.specs.declared.steps.Step.{Step}
 use Rattle.step_kinds.specs.Places.{step_place}
 use Rattle.step_kinds.specs.Sides.{other_side}
-use Rattle.plan_model.specs.Plans.{no_pair, pair_plan}
-use Rattle.memory_model.specs.Memory.{site_of}
+use Rattle.pair_model.specs.Plans.{no_pair, pair_plan}
+use Rattle.ledger_model.specs.Memory.{site_of}
 use Rattle.bridge_pair.specs.Fresh.{fresh_bridge}
 use Rattle.fabric_rule.specs.Parts.{PairState, count_in, queue_of, plain_pair}
 use Rattle.fabric_rule.specs.StandsFor.{PairStands}

@@ -2,7 +2,7 @@
 use Rattle.std.specs.Prelude.{List}
 use Rattle.std.specs.List.{AllByRecursion}
 use Rattle.step_kinds.specs.declared.steps.Step.{Step}
-use Rattle.plan_model.specs.DeclaredPlans.{IsDeclared, IsPermitted}
+use Rattle.pair_model.specs.DeclaredPlans.{IsDeclared, IsPermitted}
 use Rattle.fabric_core.specs.Fabric.{FabricState, StandsFor, plan_kept}
 use Rattle.fabric_core.specs.declared.fabric.Fabric.TheInside.{Inside}
 

@@ -5,7 +5,7 @@ use Rattle.step_kinds.specs.declared.plan.Plan.{Plan}
 use Rattle.step_kinds.specs.declared.steps.Answer.{Answer}
 use Rattle.step_kinds.specs.declared.steps.Step.{Step}
 use Rattle.ledger_laws.specs.Together.{HoldsLaws, IsRightAnswer}
-use Rattle.memory_model.specs.Memory.{memory_of}
+use Rattle.ledger_model.specs.Memory.{memory_of}
 
 abbrev pub IsLawful : Plan → List Step → Type 0
 IsLawful plan steps = HoldsLaws plan (memory_of plan) steps

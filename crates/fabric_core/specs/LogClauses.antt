@@ -7,11 +7,11 @@ use Rattle.step_kinds.specs.declared.plan.Counters.{Counters}
 use Rattle.step_kinds.specs.declared.plan.Plan.{Plan}
 use Rattle.step_kinds.specs.declared.steps.Answer.{Answer}
 use Rattle.step_kinds.specs.declared.steps.Step.{Step}
-use Rattle.plan_model.specs.DeclaredPlans.{IsDeclared, IsPermitted}
-use Rattle.plan_model.specs.Plans.{dev_plan}
+use Rattle.pair_model.specs.DeclaredPlans.{IsDeclared, IsPermitted}
+use Rattle.pair_model.specs.Plans.{dev_plan}
 use Rattle.ledger_laws.specs.Laws.{GoesOn, IsOrdinaryPair, is_unlike}
 use Rattle.ledger_model.specs.Log.{Answered, accepted, counters_in, delivered, first_session, lane_of_device, log_of, trains}
-use Rattle.memory_model.specs.Memory.{memory_of}
+use Rattle.ledger_model.specs.Memory.{memory_of}
 use Rattle.fabric_core.specs.Fabric.{FabricState, StandsFor}
 
 -- the log of steps, whose memories show what was stored

@@ -17,9 +17,9 @@ use Rattle.frame_ring.specs.Port.{PortState, unused_of}
 use Rattle.frame_ring.specs.PortView.{FitsRings, HasPagesIn}
 use Rattle.hand_shake.specs.Checks.{check_answer}
 use Rattle.hand_shake.specs.declared.CheckAnswer.TheVariants.{Up}
-use Rattle.plan_model.specs.DeclaredPlans.{IsPayload, SameQueue}
-use Rattle.plan_model.specs.Device.{no_counts}
-use Rattle.plan_model.specs.Plans.{dev_plan, side_plan}
+use Rattle.pair_model.specs.DeclaredPlans.{IsPayload, SameQueue}
+use Rattle.pair_model.specs.Device.{no_counts}
+use Rattle.pair_model.specs.Plans.{dev_plan, side_plan}
 use Rattle.queue_pair.specs.Queue.{fresh_queue}
 use Rattle.fabric_rule.specs.Parts.{PairState, QueuePart, no_queue, queue_of, queues_of}
 use Rattle.fabric_rule.specs.Laws.{IsFreshQueue}

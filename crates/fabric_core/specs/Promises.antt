@@ -3,8 +3,8 @@ use Rattle.std.specs.Prelude.{◌≡◌, ℕ, ◌<◌, Contains, List}
 use Rattle.step_kinds.specs.declared.names.Side.{Side}
 use Rattle.step_kinds.specs.declared.places.BridgeStep.{BridgeStep}
 use Rattle.step_kinds.specs.declared.places.BridgeStep.TheVariants.{Ready, Join, Check, Spad, Poke, ShowMem, ShowPad}
-use Rattle.plan_model.specs.DeclaredPlans.{IsPoke, IsShown}
-use Rattle.plan_model.specs.Plans.{side_plan}
+use Rattle.pair_model.specs.DeclaredPlans.{IsPoke, IsShown}
+use Rattle.pair_model.specs.Plans.{side_plan}
 use Rattle.bridge_pair.specs.Bridge.{Bridge, pages_of, flight_of}
 use Rattle.plan_numbers.specs.Memories.{WindowsFit}
 use Rattle.hand_shake.specs.Checks.{check_answer}

@@ -3,7 +3,7 @@ use Rattle.std.specs.Prelude.{ℕ, ◌≡◌, ◌≤◌, ◌⊎◌, Bool, false,
 use Rattle.step_kinds.specs.declared.plan.Counters.{Counters}
 use Rattle.step_kinds.specs.declared.steps.Answer.{Answer}
 use Rattle.step_kinds.specs.declared.steps.Answer.TheVariants.{OkNumber, ReadyFrame}
-use Rattle.plan_model.specs.Device.{count_accepted, count_refused, stopped_after_send}
+use Rattle.pair_model.specs.Device.{count_accepted, count_refused, stopped_after_send}
 use Rattle.bridge_pair.specs.Bridge.{Bridge}
 use Rattle.frame_ring.specs.Port.{PortState}
 use Rattle.frame_ring.specs.PortView.{FitsRings, HasPagesIn, HasRoomIn}

@@ -5,7 +5,7 @@ use Rattle.step_kinds.specs.declared.plan.Plan.{Plan}
 use Rattle.step_kinds.specs.declared.steps.Answer.{Answer}
 use Rattle.step_kinds.specs.declared.steps.Step.{Step}
 use Rattle.step_kinds.specs.declared.steps.Step.TheVariants.{Post, Xbegin}
-use Rattle.plan_model.specs.Device.{count_refused}
+use Rattle.pair_model.specs.Device.{count_refused}
 use Rattle.step_kinds.specs.Answers.{is_made}
 use Rattle.frame_ring.specs.Calls.{let_go}
 use Rattle.frame_ring.specs.Port.{with_sending}

@@ -2,7 +2,7 @@
 
 ghost use Rattle.std.specs.Prelude.{IsTrue, ◌<◌, ◌↔◌, ◌≡◌, ◌≤◌};
 ghost use Rattle.fabric_core.specs.Numbers.{HasRoomToDeliver, HasRoomToSend, most_count};
-ghost use Rattle.plan_model.specs.Device.{count_accepted, count_delivered, count_refused, no_counts as nothing_counted};
+ghost use Rattle.pair_model.specs.Device.{count_accepted, count_delivered, count_refused, no_counts as nothing_counted};
 
 use step_kinds::Counters;
 

@@ -10,7 +10,7 @@ ghost use Rattle.fabric_core.specs.FabricStep.{HasStepped};
 ghost use Rattle.fabric_core.specs.FrameDue.{frame_due};
 ghost use Rattle.fabric_core.specs.Same.{AreSameBut, AreSamePairs, plan_at};
 ghost use Rattle.fabric_rule.specs.Parts.{queue_of};
-ghost use Rattle.plan_model.specs.DeclaredPlans.{IsDeclared, IsPairOf, IsPermitted, IsQueueOf};
+ghost use Rattle.pair_model.specs.DeclaredPlans.{IsDeclared, IsPairOf, IsPermitted, IsQueueOf};
 ghost use Rattle.step_kinds.specs.Sides.{other_side};
 ghost use Rattle.step_kinds.specs.declared.plan.Plan.{Plan as DeclaredPlan};
 ghost use Rattle.step_kinds.specs.declared.steps.Answer.TheVariants.{Landed};

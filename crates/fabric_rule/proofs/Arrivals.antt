@@ -9,10 +9,10 @@ use Rattle.step_kinds.specs.declared.names.Side.TheVariants.{A, B}
 use Rattle.step_kinds.specs.declared.plan.DevPlan.{DevPlan}
 use Rattle.step_kinds.specs.declared.plan.PairPlan.{PairPlan}
 use Rattle.lane_model.specs.Lane.{Entry}
-use Rattle.plan_model.specs.Both.{Both, at_side}
-use Rattle.byte_model.specs.Stores.{Store, bytes_in}
+use Rattle.pair_model.specs.Both.{Both, at_side}
+use Rattle.pair_model.specs.Stores.{Store, bytes_in}
 use Rattle.ledger_model.specs.Ledger.{LanePart, lane_of, side_of, with_lane, with_side_part}
-use Rattle.memory_model.specs.Memory.{Site}
+use Rattle.ledger_model.specs.Memory.{Site}
 use Rattle.plan_numbers.specs.Memories.{memory_size}
 use Rattle.bridge_pair.specs.Bridge.{Bridge, bells_of, bytes_of, pads_of, with_bells, with_bytes, with_memory, with_pads}
 use Rattle.bridge_regs.specs.Doorbell.{with_pending}

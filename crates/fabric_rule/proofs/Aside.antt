@@ -12,13 +12,13 @@ use Rattle.step_kinds.specs.declared.steps.Answer.TheVariants.{Ok as Done, Mem, 
 use Rattle.step_kinds.specs.declared.steps.Label.{Label}
 use Rattle.step_kinds.specs.declared.steps.Label.TheVariants.{Pad, Raw}
 use Rattle.step_kinds.specs.declared.steps.Step.TheVariants.{Poke, ShowMem, ShowQueue, Spad}
-use Rattle.plan_model.specs.Both.{Both}
-use Rattle.plan_model.specs.DeclaredPlans.{IsPoke, IsShown}
-use Rattle.plan_model.specs.Link.{is_up}
-use Rattle.plan_model.specs.Plans.{side_plan}
+use Rattle.pair_model.specs.Both.{Both}
+use Rattle.pair_model.specs.DeclaredPlans.{IsPoke, IsShown}
+use Rattle.pair_model.specs.Link.{is_up}
+use Rattle.pair_model.specs.Plans.{side_plan}
 use Rattle.ledger_model.specs.Ledger.{side_of, with_side_part}
 use Rattle.ledger_model.specs.Registers.{poke_step, show_mem_step, show_queue_step, spad_step}
-use Rattle.memory_model.specs.Memory.{Site, bytes_of_site}
+use Rattle.ledger_model.specs.Memory.{Site, bytes_of_site}
 use Rattle.plan_numbers.specs.Memories.{memory_size}
 use Rattle.bridge_pair.specs.Flights.{Flying, flying_of}
 use Rattle.bridge_pair.specs.Writes.{memory_write, pad_write}

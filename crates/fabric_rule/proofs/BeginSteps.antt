@@ -16,17 +16,17 @@ use Rattle.step_kinds.specs.declared.steps.Step.TheVariants.{Begin, QpDown, Xbeg
 use Rattle.lane_model.specs.Lane.{Entry, GoesDown}
 use Rattle.lane_model.specs.Ring.{head_of}
 use Rattle.lane_model.specs.Tests.{is_empty_list}
-use Rattle.plan_model.specs.Both.{at_side}
-use Rattle.plan_model.specs.DeclaredPlans.{SizesFit}
-use Rattle.plan_model.specs.Device.{Flow, stopped_after_send, count_accepted, count_refused}
-use Rattle.plan_model.specs.Ethernet.{ethernet_frame}
-use Rattle.plan_model.specs.Labels.{labels_of}
-use Rattle.plan_model.specs.Link.{is_up}
-use Rattle.plan_model.specs.Pieces.{pieces_of}
-use Rattle.plan_model.specs.Plans.{dev_plan, side_plan}
-use Rattle.plan_model.specs.Sizes.{sizes_of, pieces_in}
-use Rattle.byte_model.specs.Addresses.{own_index_word}
-use Rattle.byte_model.specs.Headers.{free_in_memory}
+use Rattle.pair_model.specs.Both.{at_side}
+use Rattle.pair_model.specs.DeclaredPlans.{SizesFit}
+use Rattle.pair_model.specs.Device.{Flow, stopped_after_send, count_accepted, count_refused}
+use Rattle.pair_model.specs.Ethernet.{ethernet_frame}
+use Rattle.pair_model.specs.Labels.{labels_of}
+use Rattle.pair_model.specs.Link.{is_up}
+use Rattle.pair_model.specs.Pieces.{pieces_of}
+use Rattle.pair_model.specs.Plans.{dev_plan, side_plan}
+use Rattle.pair_model.specs.Sizes.{sizes_of, pieces_in}
+use Rattle.pair_model.specs.Addresses.{own_index_word}
+use Rattle.pair_model.specs.Headers.{free_in_memory}
 use Rattle.ledger_model.specs.Ledger.{DevPart, LanePart, Tally, dev_of, head_in, lane_of, side_of, tally_of, updated, with_lane, with_side_part}
 use Rattle.ledger_model.specs.Outcome.{Outcome, decided}
 use Rattle.ledger_model.specs.Sending.{begin_step, counts_accepted, counts_refused, counts_sent, frame_begun as lane_begun, begun_lane, flow_of, is_busy as is_lane_busy, qpdown_step, xbegin_step}

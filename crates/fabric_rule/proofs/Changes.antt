@@ -7,7 +7,7 @@ use Rattle.step_kinds.specs.Sides.{other_side}
 use Rattle.step_kinds.specs.declared.names.Side.{Side}
 use Rattle.step_kinds.specs.declared.names.Side.TheVariants.{A, B}
 use Rattle.lane_model.specs.Lane.{Entry}
-use Rattle.plan_model.specs.Both.{Both, at_side, with_side}
+use Rattle.pair_model.specs.Both.{Both, at_side, with_side}
 use Rattle.ledger_model.specs.Ledger.{LanePart, SidePart, updated}
 use Rattle.fabric_rule.specs.StandsFor.{sent_of}
 use Rattle.fabric_rule.proofs.Counts.{has-with_other, has-with_same}

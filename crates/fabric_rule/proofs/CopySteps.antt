@@ -14,9 +14,9 @@ use Rattle.lane_model.specs.Lane.{chunks_in}
 use Rattle.lane_model.specs.Tests.{is_copying}
 use Rattle.lane_model.specs.declared.Phase.{Phase}
 use Rattle.lane_model.specs.declared.Phase.TheVariants.{Idle, Copying, Copied, Cleared}
-use Rattle.plan_model.specs.DeclaredPlans.{SizesFit}
-use Rattle.plan_model.specs.Device.{count_delivered}
-use Rattle.plan_model.specs.Plans.{side_plan}
+use Rattle.pair_model.specs.DeclaredPlans.{SizesFit}
+use Rattle.pair_model.specs.Device.{count_delivered}
+use Rattle.pair_model.specs.Plans.{side_plan}
 use Rattle.ledger_model.specs.Ledger.{DevPart, LanePart, Tally, dev_of, lane_to, tally_of, updated, with_lane}
 use Rattle.ledger_model.specs.Outcome.{Outcome, decided, refuse_if}
 use Rattle.ledger_model.specs.Receiving.{copy_step, counts_delivered}

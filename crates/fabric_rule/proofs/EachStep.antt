@@ -14,8 +14,8 @@ use Rattle.step_kinds.specs.declared.plan.Plan.{Plan}
 use Rattle.step_kinds.specs.declared.steps.Answer.TheVariants.{Up}
 use Rattle.step_kinds.specs.declared.steps.Step.{Step}
 use Rattle.step_kinds.specs.declared.steps.Step.TheVariants.{Enable, Train, Break, DropDone, Clean, Offer, Check, Ready, Join, Begin, QpDown, Xbegin, Post, Land, Look, Copy, Clear, Ack, Wake, Irq, Mask, Unmask, Spad, Poke, ShowMem, ShowPad, ShowQueue, Relay, Xnext}
-use Rattle.plan_model.specs.DeclaredPlans.{IsDeclared, IsPair, IsPairOf, IsPermitted, SizesFit}
-use Rattle.plan_model.specs.Plans.{pair_plan, side_plan}
+use Rattle.pair_model.specs.DeclaredPlans.{IsDeclared, IsPair, IsPairOf, IsPermitted, SizesFit}
+use Rattle.pair_model.specs.Plans.{pair_plan, side_plan}
 use Rattle.ledger_laws.proofs.Facade.{joined_means_agreement, up_side_agrees}
 use Rattle.ledger_laws.specs.Laws.{IsOrdinaryOn}
 use Rattle.ledger_model.specs.Handshake.{check_refusal}
@@ -23,7 +23,7 @@ use Rattle.ledger_model.specs.Ledger.{PairPart, link_up, side_of, with_side_part
 use Rattle.ledger_model.specs.Next.{pair_next, read_next}
 use Rattle.ledger_model.specs.Outcome.{Outcome, decided}
 use Rattle.ledger_model.specs.Reading.{by_bytes, by_ledger}
-use Rattle.memory_model.specs.Memory.{Site, bytes_of_site, memory_of, site_from, site_next, site_of, fresh_site}
+use Rattle.ledger_model.specs.Memory.{Site, bytes_of_site, memory_of, site_from, site_next, site_of, fresh_site}
 use Rattle.fabric_rule.specs.Laws.{EachStepStands}
 use Rattle.fabric_rule.specs.StandsFor.{PairStands}
 use Rattle.fabric_rule.proofs.Aside.{poke_follows, show_mem_follows, show_queue_follows, spad_follows}

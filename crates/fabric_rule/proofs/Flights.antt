@@ -10,7 +10,7 @@ use Rattle.step_kinds.specs.declared.plan.PairPlan.{PairPlan}
 use Rattle.step_kinds.specs.declared.steps.Label.{Label}
 use Rattle.step_kinds.specs.declared.steps.Label.TheVariants.{Chunk, Len, Ver, Flag, Down, Bell, Index, Pad, Raw}
 use Rattle.lane_model.specs.Lane.{Entry, GoesDown}
-use Rattle.plan_model.specs.Orders.{order_of}
+use Rattle.pair_model.specs.Orders.{order_of}
 use Rattle.ledger_model.specs.Next.{idle_side}
 use Rattle.ledger_model.specs.Receiving.{poked_without, raws_before}
 use Rattle.step_kinds.specs.Sides.{other_side}

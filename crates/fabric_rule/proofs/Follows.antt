@@ -8,12 +8,12 @@ use Rattle.step_kinds.specs.declared.names.Side.TheVariants.{A, B}
 use Rattle.step_kinds.specs.declared.plan.DevPlan.{DevPlan}
 use Rattle.step_kinds.specs.declared.plan.PairPlan.{PairPlan}
 use Rattle.step_kinds.specs.declared.steps.Step.{Step}
-use Rattle.plan_model.specs.Both.{Both, at_side}
+use Rattle.pair_model.specs.Both.{Both, at_side}
 use Rattle.ledger_model.specs.Ledger.{PairPart, updated}
 use Rattle.ledger_model.specs.Next.{read_next}
 use Rattle.ledger_model.specs.Outcome.{Outcome}
 use Rattle.ledger_model.specs.Reading.{by_bytes}
-use Rattle.memory_model.specs.Memory.{Site, bytes_of_site, stores_by}
+use Rattle.ledger_model.specs.Memory.{Site, bytes_of_site, stores_by}
 use Rattle.bridge_pair.specs.Bridge.{Bridge}
 use Rattle.fabric_rule.specs.Parts.{PairState, QueuePart}
 use Rattle.fabric_rule.specs.StandsFor.{PairStands, SideStandsIn, bridge_for}

@@ -9,16 +9,16 @@ use Rattle.step_kinds.specs.declared.names.Side.{Side}
 use Rattle.step_kinds.specs.declared.names.Side.TheVariants.{A, B}
 use Rattle.step_kinds.specs.declared.plan.DevPlan.{DevPlan}
 use Rattle.step_kinds.specs.declared.plan.PairPlan.{PairPlan}
-use Rattle.plan_model.specs.Both.{Both, both_of}
-use Rattle.plan_model.specs.DeclaredPlans.{IsPair}
-use Rattle.plan_model.specs.Link.{fresh_link}
-use Rattle.plan_model.specs.Pads.{agreed_pads, offers}
-use Rattle.plan_model.specs.Plans.{side_plan}
-use Rattle.byte_model.specs.FreshRings.{fresh_index_words, zeroed_headers}
-use Rattle.byte_model.specs.Stores.{Store, bytes_in}
-use Rattle.byte_model.proofs.Facade.{nothing_stored}
+use Rattle.pair_model.specs.Both.{Both, both_of}
+use Rattle.pair_model.specs.DeclaredPlans.{IsPair}
+use Rattle.pair_model.specs.Link.{fresh_link}
+use Rattle.pair_model.specs.Pads.{agreed_pads, offers}
+use Rattle.pair_model.specs.Plans.{side_plan}
+use Rattle.pair_model.specs.FreshRings.{fresh_index_words, zeroed_headers}
+use Rattle.pair_model.specs.Stores.{Store, bytes_in}
+use Rattle.pair_model.proofs.Facade.{nothing_stored}
 use Rattle.ledger_model.specs.LinkSteps.{fresh_lane}
-use Rattle.memory_model.specs.Memory.{fresh_site}
+use Rattle.ledger_model.specs.Memory.{fresh_site}
 use Rattle.bridge_regs.specs.Doorbell.{quiet}
 use Rattle.plan_numbers.specs.Memories.{memory_size}
 use Rattle.bridge_pair.specs.Bridge.{Bridge, offer_length}

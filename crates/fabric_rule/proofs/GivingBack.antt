@@ -12,12 +12,12 @@ use Rattle.step_kinds.specs.declared.steps.Step.TheVariants.{Clear, Ack}
 use Rattle.lane_model.specs.Tests.{is_copied, is_cleared}
 use Rattle.lane_model.specs.declared.Phase.{Phase}
 use Rattle.lane_model.specs.declared.Phase.TheVariants.{Idle, Copying, Copied, Cleared}
-use Rattle.plan_model.specs.DeclaredPlans.{SizesFit}
-use Rattle.plan_model.specs.Plans.{side_plan}
+use Rattle.pair_model.specs.DeclaredPlans.{SizesFit}
+use Rattle.pair_model.specs.Plans.{side_plan}
 use Rattle.ledger_model.specs.Ledger.{LanePart, lane_to, with_lane}
 use Rattle.ledger_model.specs.Outcome.{Outcome, decided, refuse_if}
-use Rattle.byte_model.specs.FreshRings.{zeroed_flags}
-use Rattle.byte_model.specs.Headers.{flags_offset}
+use Rattle.pair_model.specs.FreshRings.{zeroed_flags}
+use Rattle.pair_model.specs.Headers.{flags_offset}
 use Rattle.ledger_model.specs.Sending.{posts_through}
 use Rattle.step_kinds.specs.declared.steps.Label.TheVariants.{Index}
 use Rattle.ledger_model.specs.Receiving.{ack_step, clear_step}

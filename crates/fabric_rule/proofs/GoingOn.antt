@@ -7,12 +7,12 @@ use Rattle.step_kinds.specs.declared.plan.DevPlan.{DevPlan}
 use Rattle.step_kinds.specs.declared.plan.PairPlan.{PairPlan}
 use Rattle.step_kinds.specs.declared.steps.Answer.TheVariants as answer
 use Rattle.step_kinds.specs.declared.steps.Step.TheVariants.{Wake}
-use Rattle.plan_model.specs.DeclaredPlans.{SizesFit}
-use Rattle.plan_model.specs.Device.{stays_stopped}
-use Rattle.plan_model.specs.Plans.{dev_plan, side_plan}
-use Rattle.plan_model.specs.Sizes.{sizes_of}
-use Rattle.byte_model.specs.Addresses.{own_index_word}
-use Rattle.byte_model.specs.Headers.{free_in_memory}
+use Rattle.pair_model.specs.DeclaredPlans.{SizesFit}
+use Rattle.pair_model.specs.Device.{stays_stopped}
+use Rattle.pair_model.specs.Plans.{dev_plan, side_plan}
+use Rattle.pair_model.specs.Sizes.{sizes_of}
+use Rattle.pair_model.specs.Addresses.{own_index_word}
+use Rattle.pair_model.specs.Headers.{free_in_memory}
 use Rattle.ledger_model.specs.Ledger.{lane_of, DevPart, dev_of, head_in, with_dev}
 use Rattle.ledger_model.specs.Outcome.{Outcome, decided, refuse_if}
 use Rattle.ledger_model.specs.Sending.{flow_of, wake_step}

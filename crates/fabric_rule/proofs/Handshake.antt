@@ -16,16 +16,16 @@ use Rattle.step_kinds.specs.declared.steps.Label.{Label}
 use Rattle.step_kinds.specs.declared.steps.Label.TheVariants.{Chunk, Len, Ver, Flag, Down, Bell, Index, Pad, Raw}
 use Rattle.step_kinds.specs.declared.steps.Step.TheVariants.{Offer, Check, Ready, Join}
 use Rattle.lane_model.specs.Lane.{count_from}
-use Rattle.plan_model.specs.Both.{Both, at_side}
-use Rattle.plan_model.specs.DeclaredPlans.{IsPair}
-use Rattle.plan_model.specs.Link.{is_down, is_up}
-use Rattle.plan_model.specs.Pads.{first_larger, high_pad, links_pad, low_pad, offers, pad_index, queues_pad, version_pad, versions_differ, windows_pad, word}
-use Rattle.plan_model.specs.Plans.{side_plan}
-use Rattle.byte_model.specs.FreshRings.{fresh_index_words, zeroed_headers}
+use Rattle.pair_model.specs.Both.{Both, at_side}
+use Rattle.pair_model.specs.DeclaredPlans.{IsPair}
+use Rattle.pair_model.specs.Link.{is_down, is_up}
+use Rattle.pair_model.specs.Pads.{first_larger, high_pad, links_pad, low_pad, offers, pad_index, queues_pad, version_pad, versions_differ, windows_pad, word}
+use Rattle.pair_model.specs.Plans.{side_plan}
+use Rattle.pair_model.specs.FreshRings.{fresh_index_words, zeroed_headers}
 use Rattle.ledger_model.specs.Handshake.{check_refusal, check_step, join_step, offer_step, pad_in, ready_step, refuse_larger}
 use Rattle.ledger_model.specs.Ledger.{SidePart, link_up, side_of, with_side_part}
 use Rattle.ledger_model.specs.Outcome.{decided, refuse_if}
-use Rattle.memory_model.specs.Memory.{Site}
+use Rattle.ledger_model.specs.Memory.{Site}
 use Rattle.plan_numbers.specs.Memories.{memory_size}
 use Rattle.bridge_pair.specs.Bridge.{Bridge, with_book, with_memory}
 use Rattle.hand_shake.specs.Checks.{after_answer as after_check_answer, check_answer, unless_larger}
@@ -43,7 +43,7 @@ use Rattle.fabric_rule.specs.StandsFor.{SideStands, book_for, bridge_for, has_fo
 use Rattle.bridge_pair.specs.declared.book.SideBook.{SideBook}
 use Rattle.bridge_pair.specs.Flights.{flying_of}
 use Rattle.bridge_pair.specs.Writes.{pad_write}
-use Rattle.byte_model.specs.Stores.{bytes_in}
+use Rattle.pair_model.specs.Stores.{bytes_in}
 use Rattle.bridge_pair.specs.Ends.{bytes_after}
 use Rattle.fabric_rule.proofs.Follows.{AllSides, Follows, by_side, state_for}
 use Rattle.fabric_rule.proofs.Links.{not_down_up}

@@ -13,9 +13,9 @@ use Rattle.step_kinds.specs.declared.steps.Label.{Label}
 use Rattle.step_kinds.specs.declared.steps.Label.TheVariants.{Chunk, Len, Ver, Flag, Down, Bell, Index, Pad, Raw}
 use Rattle.step_kinds.specs.declared.steps.Step.TheVariants.{Land}
 use Rattle.order_rules.specs.Order.{lands_behind, may_land}
-use Rattle.plan_model.specs.Both.{at_side}
-use Rattle.plan_model.specs.Link.{is_down}
-use Rattle.plan_model.specs.Orders.{order_of}
+use Rattle.pair_model.specs.Both.{at_side}
+use Rattle.pair_model.specs.Link.{is_down}
+use Rattle.pair_model.specs.Orders.{order_of}
 use Rattle.ledger_model.specs.Ledger.{side_of, with_side_part}
 use Rattle.ledger_model.specs.Outcome.{Outcome, decided, refuse_if}
 use Rattle.ledger_model.specs.Receiving.{land_found, land_step, lands_on, taken_out}

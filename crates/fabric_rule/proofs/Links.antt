@@ -11,23 +11,23 @@ use Rattle.step_kinds.specs.declared.plan.DevPlan.{DevPlan}
 use Rattle.step_kinds.specs.declared.plan.PairPlan.{PairPlan}
 use Rattle.step_kinds.specs.declared.steps.Answer.TheVariants.{Ok as Done, OkSession}
 use Rattle.step_kinds.specs.declared.steps.Step.TheVariants.{Enable, Train, Break, DropDone, Clean}
-use Rattle.plan_model.specs.Both.{Both, at_side, both_of, with_side}
-use Rattle.plan_model.specs.Link.{Link, is_down, is_up, is_closing, refused_where, enable_refusal, train_refusal, cut_refusal, drop_refusal, clean_refusal, enabled_link, trained_link, cut_link, dropped_link, cleaned_link}
-use Rattle.plan_model.specs.declared.LinkRefusal.{LinkRefusal}
-use Rattle.plan_model.specs.declared.LinkRefusal.TheVariants.{NotDown, Dirty, NotEnabled, NotUp, NotClosing}
-use Rattle.plan_model.specs.declared.LinkState.{LinkState}
-use Rattle.plan_model.specs.declared.LinkState.TheVariants.{Down, Up, Closing}
+use Rattle.pair_model.specs.Both.{Both, at_side, both_of, with_side}
+use Rattle.pair_model.specs.Link.{Link, is_down, is_up, is_closing, refused_where, enable_refusal, train_refusal, cut_refusal, drop_refusal, clean_refusal, enabled_link, trained_link, cut_link, dropped_link, cleaned_link}
+use Rattle.pair_model.specs.declared.LinkRefusal.{LinkRefusal}
+use Rattle.pair_model.specs.declared.LinkRefusal.TheVariants.{NotDown, Dirty, NotEnabled, NotUp, NotClosing}
+use Rattle.pair_model.specs.declared.LinkState.{LinkState}
+use Rattle.pair_model.specs.declared.LinkState.TheVariants.{Down, Up, Closing}
 use Rattle.ledger_model.specs.LinkSteps.{answer_of_refusal, cleaned_side, emptied_side, forgotten_lanes, fresh_lane, started_dev, enable_step, train_step, break_step, drop_step, clean_step, refusal_answer}
 use Rattle.ledger_model.specs.Outcome.{decided}
 use Rattle.ledger_model.specs.Ledger.{PairPart, SidePart, side_of}
 use Rattle.lane_model.specs.Lane.{Entry}
 use Rattle.lane_model.specs.declared.Phase.TheVariants.{Idle}
-use Rattle.byte_model.specs.Stores.{Store}
+use Rattle.pair_model.specs.Stores.{Store}
 use Rattle.step_kinds.specs.declared.steps.Answer.{Answer}
 use Rattle.step_kinds.specs.declared.steps.Label.{Label}
 use Rattle.frame_ring.specs.Port.{PortState, fresh_port}
 use Rattle.bridge_pair.specs.Flights.{Flying}
-use Rattle.memory_model.specs.Memory.{Site}
+use Rattle.ledger_model.specs.Memory.{Site}
 use Rattle.bridge_pair.specs.Bridge.{Bridge, with_link}
 use Rattle.bridge_pair.specs.Links.{after_step, cleaned, dropped}
 use Rattle.fabric_rule.specs.Answers.{of_link, of_refusal}

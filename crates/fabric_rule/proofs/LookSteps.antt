@@ -12,14 +12,14 @@ use Rattle.lane_model.specs.Tests.{is_idle}
 use Rattle.lane_model.specs.declared.Phase.{Phase}
 use Rattle.lane_model.specs.declared.Phase.TheVariants.{Idle, Copying, Copied, Cleared}
 use Rattle.ring_geometry.specs.Geometry.{max_payload_of}
-use Rattle.plan_model.specs.DeclaredPlans.{SizesFit}
-use Rattle.plan_model.specs.Plans.{side_plan}
-use Rattle.plan_model.specs.Sizes.{layout_to}
-use Rattle.byte_model.specs.Headers.{Found, NoEntry, ALinkDownEntry, AnotherVersion, TooManyBytes, AnEntry}
+use Rattle.pair_model.specs.DeclaredPlans.{SizesFit}
+use Rattle.pair_model.specs.Plans.{side_plan}
+use Rattle.pair_model.specs.Sizes.{layout_to}
+use Rattle.pair_model.specs.Headers.{Found, NoEntry, ALinkDownEntry, AnotherVersion, TooManyBytes, AnEntry}
 use Rattle.ledger_model.specs.Ledger.{lane_to, side_of, dev_of, lane_of, tally_of}
 use Rattle.ledger_model.specs.Outcome.{Outcome, decided, refuse_if}
 use Rattle.ledger_model.specs.Receiving.{look_at, look_step}
-use Rattle.memory_model.specs.Memory.{bytes_of_site}
+use Rattle.ledger_model.specs.Memory.{bytes_of_site}
 use Rattle.frame_ring.specs.Port.{Receiving, fresh_port, with_receiving}
 use Rattle.frame_ring.specs.Calls.{entry_found, found_seen, look_found}
 use Rattle.frame_ring.specs.declared.RingLook.TheVariants.{OutOfTurn as RingOutOfTurn}

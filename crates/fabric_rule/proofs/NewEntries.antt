@@ -13,11 +13,11 @@ use Rattle.lane_model.specs.Lane.{Entry, Carries, GoesDown, bytes_of, chunks_in,
 use Rattle.lane_model.specs.declared.Field.TheVariants.{Chunk, Length, Version}
 use Rattle.lane_model.specs.declared.Write.TheVariants.{Data, Flag, Bell}
 use Rattle.lane_model.specs.Ring.{free_entries, head_of}
-use Rattle.plan_model.specs.DeclaredPlans.{SizesFit}
-use Rattle.plan_model.specs.Labels.{label_of, labels_of}
-use Rattle.plan_model.specs.Pieces.{piece_of, pieces_of}
-use Rattle.plan_model.specs.Sizes.{pieces_in}
-use Rattle.byte_model.specs.Headers.{free_in_memory}
+use Rattle.pair_model.specs.DeclaredPlans.{SizesFit}
+use Rattle.pair_model.specs.Labels.{label_of, labels_of}
+use Rattle.pair_model.specs.Pieces.{piece_of, pieces_of}
+use Rattle.pair_model.specs.Sizes.{pieces_in}
+use Rattle.pair_model.specs.Headers.{free_in_memory}
 use Rattle.fabric_rule.specs.InPlace.{FitsSlot, IsLeftOf, IsWriteOf, SendingEnd, SendingInPlace, last_entry}
 
 -- the labels of an entry's writes are of its writes

@@ -8,12 +8,12 @@ use Rattle.step_kinds.specs.declared.names.Side.{Side}
 use Rattle.step_kinds.specs.declared.names.Side.TheVariants.{A, B}
 use Rattle.step_kinds.specs.declared.plan.DevPlan.{DevPlan}
 use Rattle.step_kinds.specs.declared.plan.PairPlan.{PairPlan}
-use Rattle.plan_model.specs.Both.{Both, at_side}
-use Rattle.plan_model.specs.DeclaredPlans.{IsPair, SizesFit}
-use Rattle.plan_model.specs.Plans.{side_plan}
+use Rattle.pair_model.specs.Both.{Both, at_side}
+use Rattle.pair_model.specs.DeclaredPlans.{IsPair, SizesFit}
+use Rattle.pair_model.specs.Plans.{side_plan}
 use Rattle.ledger_model.specs.Ledger.{LanePart, lane_to, side_of, with_lane, DevPart, PairPart, SidePart, Tally, dev_of, lane_of, tally_of, with_dev}
-use Rattle.memory_model.specs.Memory.{Site, bytes_of_site}
-use Rattle.byte_model.specs.Headers.{index_word_in}
+use Rattle.ledger_model.specs.Memory.{Site, bytes_of_site}
+use Rattle.pair_model.specs.Headers.{index_word_in}
 use Rattle.ledger_model.specs.Reading.{Reading, by_bytes}
 use Rattle.frame_ring.specs.PortView.{bytes_seen}
 use Rattle.queue_pair.specs.Queue.{QueueState, with_port}
@@ -27,8 +27,8 @@ use Rattle.fabric_rule.proofs.Links.{no_bits, bridge_same}
 use Rattle.fabric_rule.proofs.Queues.{queue_is, set_again, other_dev, side_at, side_same}
 use Rattle.std.proofs.lemmas.List.{append-nil}
 use Rattle.step_kinds.specs.declared.plan.Counters.{Counters}
-use Rattle.plan_model.specs.Device.{Flow}
-use Rattle.plan_model.specs.Link.{is_down}
+use Rattle.pair_model.specs.Device.{Flow}
+use Rattle.pair_model.specs.Link.{is_down}
 use Rattle.frame_ring.specs.Port.{Sending, with_receiving, with_sending}
 use Rattle.fabric_rule.proofs.Changes.{OneChanges, OneCloses, changes, grows_at, none_closes, peer_changes, peer_grows, same_read, stays}
 use Rattle.fabric_rule.proofs.Flights.{SentGrows, flight_grows, writes_grow}

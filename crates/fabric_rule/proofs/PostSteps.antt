@@ -16,10 +16,10 @@ use Rattle.bridge_pair.specs.Flights.{Flying}
 use Rattle.fabric_rule.specs.InPlace.{FlightInPlace, HaveBytes, IsBegun, LiesIn}
 use Rattle.fabric_rule.specs.Parts.{PairState, QueuePart, plain_bridge, queues_of, with_bridge}
 use Rattle.fabric_rule.specs.StandsFor.{PairStands, QueueView, SideStands, bridge_for, flying_labelled, has_forgotten, raw_bytes, sent_in, sent_of, view_of, writes_labelled}
-use Rattle.plan_model.specs.Both.{at_side}
-use Rattle.plan_model.specs.Link.{is_down, is_up}
+use Rattle.pair_model.specs.Both.{at_side}
+use Rattle.pair_model.specs.Link.{is_down, is_up}
 use Rattle.ledger_model.specs.Ledger.{PairPart, side_of, with_side_part}
-use Rattle.memory_model.specs.Memory.{Site}
+use Rattle.ledger_model.specs.Memory.{Site}
 use Rattle.fabric_rule.proofs.Follows.{by_side, two_same}
 use Rattle.fabric_rule.proofs.Links.{not_down_up}
 use Rattle.fabric_rule.proofs.Flights.{all_push, have-push, writes-append}

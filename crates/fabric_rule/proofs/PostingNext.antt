@@ -13,10 +13,10 @@ use Rattle.lane_model.specs.Lane.{Entry, GoesDown, data_of, writes_of}
 use Rattle.lane_model.specs.declared.Write.TheVariants.{Flag, Bell}
 use Rattle.lane_model.specs.Tests.{is_empty_list}
 use Rattle.lane_model.specs.declared.Write.{Write}
-use Rattle.plan_model.specs.Both.{at_side}
-use Rattle.plan_model.specs.DeclaredPlans.{SizesFit}
-use Rattle.plan_model.specs.Labels.{label_of, labels_of}
-use Rattle.plan_model.specs.Plans.{side_plan}
+use Rattle.pair_model.specs.Both.{at_side}
+use Rattle.pair_model.specs.DeclaredPlans.{SizesFit}
+use Rattle.pair_model.specs.Labels.{label_of, labels_of}
+use Rattle.pair_model.specs.Plans.{side_plan}
 use Rattle.ledger_model.specs.Ledger.{LanePart, lane_of, with_lane, dev_of, side_of, tally_of}
 use Rattle.ledger_model.specs.Outcome.{Outcome}
 use Rattle.ledger_model.specs.Sending.{next_begun as next_in_ledger, post_first, post_step, posts_through}

@@ -9,7 +9,7 @@ use Rattle.step_kinds.specs.declared.plan.DevPlan.{DevPlan}
 use Rattle.step_kinds.specs.declared.plan.PairPlan.{PairPlan}
 use Rattle.step_kinds.specs.declared.steps.Label.{Label}
 use Rattle.lane_model.specs.Lane.{Entry}
-use Rattle.plan_model.specs.Plans.{side_plan}
+use Rattle.pair_model.specs.Plans.{side_plan}
 use Rattle.ledger_model.specs.Ledger.{DevPart, LanePart, updated}
 use Rattle.fabric_rule.specs.InPlace.{FlightInPlace}
 use Rattle.fabric_rule.specs.Parts.{PairState, QueuePart, no_queue, queue_of, with_queue}

@@ -5,9 +5,9 @@ use Rattle.step_kinds.specs.declared.names.Side.TheVariants.{A, B}
 use Rattle.step_kinds.specs.declared.plan.DevPlan.{DevPlan}
 use Rattle.step_kinds.specs.declared.plan.PairPlan.{PairPlan}
 use Rattle.step_kinds.specs.declared.steps.Step.TheVariants.{Irq, Mask, Unmask, ShowPad}
-use Rattle.plan_model.specs.Both.{Both}
+use Rattle.pair_model.specs.Both.{Both}
 use Rattle.ledger_model.specs.Registers.{irq_step, mask_step, unmask_step, show_pad_step}
-use Rattle.memory_model.specs.Memory.{Site}
+use Rattle.ledger_model.specs.Memory.{Site}
 use Rattle.fabric_rule.specs.InPlace.{LinkInPlace}
 use Rattle.fabric_rule.specs.Parts.{QueuePart}
 use Rattle.fabric_rule.proofs.Follows.{AllSides, Follows, by_side, state_for}

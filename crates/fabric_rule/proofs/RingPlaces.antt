@@ -12,15 +12,15 @@ use Rattle.lane_model.specs.Lane.{count_from, version_of}
 use Rattle.ring_geometry.specs.Geometry.{Layout, HasRing, IsPlaced, entries_of, frame_size, header_of, index_of, max_payload_of, ring_bytes, slot_of, window_of}
 use Rattle.ring_geometry.proofs.Facade.{area_in_window, slot_in_window, in_area}
 use Rattle.ring_geometry.specs.Spots.{Index}
-use Rattle.plan_model.specs.DeclaredPlans.{IsPair}
-use Rattle.plan_model.specs.Plans.{side_plan}
-use Rattle.plan_model.specs.Sizes.{header_bytes, layout_of, layout_to}
-use Rattle.plan_model.proofs.Facade.{each_queue_has_a_ring}
-use Rattle.byte_model.specs.Addresses.{own_address}
-use Rattle.byte_model.specs.FreshRings.{fresh_index_word, fresh_index_words, zeroed_header, zeroed_headers}
-use Rattle.byte_model.specs.Headers.{flags_offset, len_offset, version_bytes, word_bytes}
-use Rattle.byte_model.specs.Stores.{Store}
-use Rattle.byte_model.proofs.Facade.{length-word_bytes}
+use Rattle.pair_model.specs.DeclaredPlans.{IsPair}
+use Rattle.pair_model.specs.Plans.{side_plan}
+use Rattle.pair_model.specs.Sizes.{header_bytes, layout_of, layout_to}
+use Rattle.pair_model.proofs.Facade.{each_queue_has_a_ring}
+use Rattle.pair_model.specs.Addresses.{own_address}
+use Rattle.pair_model.specs.FreshRings.{fresh_index_word, fresh_index_words, zeroed_header, zeroed_headers}
+use Rattle.pair_model.specs.Headers.{flags_offset, len_offset, version_bytes, word_bytes}
+use Rattle.pair_model.specs.Stores.{Store}
+use Rattle.pair_model.proofs.Facade.{length-word_bytes}
 use Rattle.plan_numbers.specs.Memories.{memory_size}
 use Rattle.fabric_rule.proofs.StoredBytes.{IsInside}
 

@@ -12,15 +12,15 @@ use Rattle.step_kinds.specs.declared.plan.PairPlan.{PairPlan}
 use Rattle.step_kinds.specs.declared.steps.Label.{Label}
 use Rattle.step_kinds.specs.declared.steps.Label.TheVariants.{Chunk, Len, Ver, Flag, Down, Bell, Index, Pad, Raw}
 use Rattle.lane_model.specs.Lane.{Entry, GoesDown, bytes_of, chunk_of, chunk_size, chunks_in, done, left_of}
-use Rattle.plan_model.specs.DeclaredPlans.{IsPair, SizesFit}
-use Rattle.plan_model.specs.Both.{at_side}
-use Rattle.plan_model.specs.Link.{is_up}
-use Rattle.plan_model.specs.Plans.{side_plan}
-use Rattle.plan_model.specs.Sizes.{header_bytes, layout_of, layout_to}
+use Rattle.pair_model.specs.DeclaredPlans.{IsPair, SizesFit}
+use Rattle.pair_model.specs.Both.{at_side}
+use Rattle.pair_model.specs.Link.{is_up}
+use Rattle.pair_model.specs.Plans.{side_plan}
+use Rattle.pair_model.specs.Sizes.{header_bytes, layout_of, layout_to}
 use Rattle.ring_geometry.specs.Geometry.{entries_of, header_of, index_of, max_payload_of, slot_of, window_of}
-use Rattle.byte_model.specs.Addresses.{peer_address}
-use Rattle.byte_model.specs.Headers.{flags_offset, len_offset, version_bytes, word_bytes}
-use Rattle.byte_model.proofs.Facade.{length-word_bytes}
+use Rattle.pair_model.specs.Addresses.{peer_address}
+use Rattle.pair_model.specs.Headers.{flags_offset, len_offset, version_bytes, word_bytes}
+use Rattle.pair_model.proofs.Facade.{length-word_bytes}
 use Rattle.ledger_model.specs.Ledger.{PairPart, side_of, posts, with_side_part}
 use Rattle.ledger_model.specs.Reading.{has_window}
 use Rattle.plan_numbers.specs.Memories.{memory_size}

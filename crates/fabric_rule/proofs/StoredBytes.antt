@@ -3,8 +3,8 @@ use Rattle.std.proofs.Common.{◌≡◌, ℕ, zero, suc, ◌+◌, ◌-◌, ◌�
 use Rattle.std.specs.List.{AllByRecursion}
 use Rattle.std.proofs.lemmas.List.{drop-map, take-map}
 use Rattle.lane_model.specs.Lane.{count_from}
-use Rattle.byte_model.specs.Stores.{Store, byte_in, bytes_in}
-use Rattle.byte_model.proofs.Facade.{bytes_over}
+use Rattle.pair_model.specs.Stores.{Store, byte_in, bytes_in}
+use Rattle.pair_model.proofs.Facade.{bytes_over}
 use Rattle.host_memory.specs.Memory.{bytes_at, written}
 use Rattle.bridge_pair.specs.Ends.{bytes_after}
 

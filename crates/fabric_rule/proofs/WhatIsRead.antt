@@ -10,13 +10,13 @@ use Rattle.step_kinds.specs.declared.names.Side.TheVariants.{A, B}
 use Rattle.step_kinds.specs.declared.plan.PairPlan.{PairPlan}
 use Rattle.lane_model.specs.Lane.{chunk_size, version_of}
 use Rattle.ring_geometry.specs.Geometry.{entries_of, header_of, index_of, max_payload_of, slot_of}
-use Rattle.plan_model.specs.Both.{Both}
-use Rattle.plan_model.specs.DeclaredPlans.{IsPair, SizesFit}
-use Rattle.plan_model.specs.Plans.{side_plan}
-use Rattle.plan_model.specs.Sizes.{Sizes, header_bytes, layout_to, sizes_in}
-use Rattle.byte_model.specs.Addresses.{own_header, own_index_word, own_slot}
-use Rattle.byte_model.specs.Headers.{Bytes, NoEntry, ALinkDownEntry, AnotherVersion, TooManyBytes, AnEntry, Header, found_in_memory, found_with, header_in, header_with, index_word_in, part_in_memory, word_at}
-use Rattle.memory_model.specs.Memory.{Site, bytes_of_site}
+use Rattle.pair_model.specs.Both.{Both}
+use Rattle.pair_model.specs.DeclaredPlans.{IsPair, SizesFit}
+use Rattle.pair_model.specs.Plans.{side_plan}
+use Rattle.pair_model.specs.Sizes.{Sizes, header_bytes, layout_to, sizes_in}
+use Rattle.pair_model.specs.Addresses.{own_header, own_index_word, own_slot}
+use Rattle.pair_model.specs.Headers.{Bytes, NoEntry, ALinkDownEntry, AnotherVersion, TooManyBytes, AnEntry, Header, found_in_memory, found_with, header_in, header_with, index_word_in, part_in_memory, word_at}
+use Rattle.ledger_model.specs.Memory.{Site, bytes_of_site}
 use Rattle.plan_numbers.specs.Memories.{memory_size}
 use Rattle.bridge_pair.specs.Bridge.{Bridge}
 use Rattle.frame_ring.specs.PortView.{bytes_seen}

@@ -5,9 +5,9 @@ use Rattle.step_kinds.specs.declared.lanes.LaneCopy.TheVariants.{Part, Whole, Ou
 use Rattle.step_kinds.specs.declared.steps.Answer.{Answer}
 use Rattle.step_kinds.specs.declared.steps.Answer.TheVariants as answer
 use Rattle.step_kinds.specs.declared.steps.Label.{Label}
-use Rattle.plan_model.specs.declared.LinkRefusal.{LinkRefusal}
-use Rattle.plan_model.specs.declared.LinkRefusal.TheVariants.{NotDown, Dirty, NotEnabled, NotUp, NotClosing, SessionsSpent}
-use Rattle.plan_model.specs.Refusals.{Test, OfLink, OfJoined, OfClosed, OfLength, OfBusy, OfDevice, in_begin_order}
+use Rattle.pair_model.specs.declared.LinkRefusal.{LinkRefusal}
+use Rattle.pair_model.specs.declared.LinkRefusal.TheVariants.{NotDown, Dirty, NotEnabled, NotUp, NotClosing, SessionsSpent}
+use Rattle.pair_model.specs.Refusals.{Test, OfLink, OfJoined, OfClosed, OfLength, OfBusy, OfDevice, in_begin_order}
 use Rattle.posted_queue.specs.declared.LandAnswer.{LandAnswer}
 use Rattle.posted_queue.specs.declared.LandAnswer.TheVariants.{Landed, Blocked, Nothing}
 use Rattle.hand_shake.specs.declared.OfferAnswer.{OfferAnswer}

@@ -13,10 +13,10 @@ use Rattle.lane_model.specs.Tests.{is_copying}
 use Rattle.lane_model.specs.declared.Phase.{Phase}
 use Rattle.lane_model.specs.declared.Phase.TheVariants.{Idle, Copying, Copied, Cleared}
 use Rattle.ring_geometry.specs.Geometry.{max_payload_of}
-use Rattle.plan_model.specs.DeclaredPlans.{SizesFit}
-use Rattle.plan_model.specs.Both.{at_side}
-use Rattle.plan_model.specs.Link.{Link, is_down}
-use Rattle.plan_model.specs.Sizes.{layout_of, layout_to}
+use Rattle.pair_model.specs.DeclaredPlans.{SizesFit}
+use Rattle.pair_model.specs.Both.{at_side}
+use Rattle.pair_model.specs.Link.{Link, is_down}
+use Rattle.pair_model.specs.Sizes.{layout_of, layout_to}
 use Rattle.ledger_model.specs.Ledger.{LanePart}
 use Rattle.frame_ring.specs.Port.{Receiving}
 use Rattle.plan_numbers.specs.Memories.{memory_size}

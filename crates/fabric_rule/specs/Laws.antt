@@ -7,14 +7,14 @@ use Rattle.step_kinds.specs.declared.plan.DevPlan.{DevPlan}
 use Rattle.step_kinds.specs.declared.plan.PairPlan.{PairPlan}
 use Rattle.step_kinds.specs.declared.plan.Plan.{Plan}
 use Rattle.step_kinds.specs.declared.steps.Step.{Step}
-use Rattle.plan_model.specs.Both.{Both}
-use Rattle.plan_model.specs.DeclaredPlans.{IsDeclared, IsPair, IsPermitted, IsPairOf}
-use Rattle.plan_model.specs.Plans.{dev_plan, pair_plan, side_plan}
+use Rattle.pair_model.specs.Both.{Both}
+use Rattle.pair_model.specs.DeclaredPlans.{IsDeclared, IsPair, IsPermitted, IsPairOf}
+use Rattle.pair_model.specs.Plans.{dev_plan, pair_plan, side_plan}
 use Rattle.ledger_model.specs.Next.{pair_next}
-use Rattle.memory_model.specs.Memory.{bytes_of_site, fresh_site, site_of}
+use Rattle.ledger_model.specs.Memory.{bytes_of_site, fresh_site, site_of}
 use Rattle.bridge_pair.specs.Fresh.{fresh_bridge}
 use Rattle.queue_pair.specs.Queue.{fresh_queue}
-use Rattle.plan_model.specs.Device.{no_counts}
+use Rattle.pair_model.specs.Device.{no_counts}
 use Rattle.fabric_rule.specs.Parts.{PairState, QueuePart, queue_of, queues_of}
 use Rattle.fabric_rule.specs.StandsFor.{IsOn, PairStands}
 use Rattle.fabric_rule.specs.Moves.{move_of}

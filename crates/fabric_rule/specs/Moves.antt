@@ -10,8 +10,8 @@ use Rattle.step_kinds.specs.declared.steps.Step.{Step}
 use Rattle.step_kinds.specs.declared.places.SideStep.TheVariants.{Clean}
 use Rattle.step_kinds.specs.declared.places.StepPlace.{StepPlace}
 use Rattle.step_kinds.specs.declared.places.StepPlace.TheVariants.{OnQueue, OnSide, OnBridge, OnSwitch}
-use Rattle.plan_model.specs.Link.{clean_refusal}
-use Rattle.plan_model.specs.declared.LinkRefusal.{LinkRefusal}
+use Rattle.pair_model.specs.Link.{clean_refusal}
+use Rattle.pair_model.specs.declared.LinkRefusal.{LinkRefusal}
 use Rattle.bridge_pair.specs.Links.{after_clean}
 use Rattle.queue_pair.specs.Queue.{fresh_queue}
 use Rattle.fabric_rule.specs.Answers.{of_link}

@@ -4,9 +4,9 @@ use Rattle.std.specs.Prelude.{ℕ, ◌+◌, ◌==◌, List, [], ◌∷◌, false
 use Rattle.step_kinds.specs.declared.names.Side.{Side}
 use Rattle.step_kinds.specs.declared.names.Side.TheVariants.{A}
 use Rattle.step_kinds.specs.declared.plan.Counters.{Counters}
-use Rattle.plan_model.specs.Both.{Both, at_side, with_side}
-use Rattle.plan_model.specs.Device.{Flow, no_counts}
-use Rattle.plan_model.specs.Plans.{no_pair}
+use Rattle.pair_model.specs.Both.{Both, at_side, with_side}
+use Rattle.pair_model.specs.Device.{Flow, no_counts}
+use Rattle.pair_model.specs.Plans.{no_pair}
 use Rattle.bridge_pair.specs.Bridge.{Bridge}
 use Rattle.queue_pair.specs.Queue.{QueueState, fresh_queue}
 

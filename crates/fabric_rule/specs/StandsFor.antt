@@ -12,14 +12,14 @@ use Rattle.step_kinds.specs.declared.steps.Label.{Label}
 use Rattle.step_kinds.specs.declared.steps.Label.TheVariants.{Chunk, Len, Ver, Flag, Down, Bell, Index, Pad, Raw}
 use Rattle.lane_model.specs.Lane.{Entry, GoesDown}
 use Rattle.lane_model.specs.Tests.{is_empty_list}
-use Rattle.plan_model.specs.Both.{Both, at_side}
-use Rattle.plan_model.specs.DeclaredPlans.{SizesFit}
-use Rattle.plan_model.specs.Link.{Link, is_down}
-use Rattle.plan_model.specs.Plans.{dev_plan, side_plan}
-use Rattle.byte_model.specs.RingWrites.{WindowWrite, entry_write, index_write}
-use Rattle.byte_model.specs.Stores.{Store, bytes_in}
+use Rattle.pair_model.specs.Both.{Both, at_side}
+use Rattle.pair_model.specs.DeclaredPlans.{SizesFit}
+use Rattle.pair_model.specs.Link.{Link, is_down}
+use Rattle.pair_model.specs.Plans.{dev_plan, side_plan}
+use Rattle.pair_model.specs.RingWrites.{WindowWrite, entry_write, index_write}
+use Rattle.pair_model.specs.Stores.{Store, bytes_in}
 use Rattle.ledger_model.specs.Ledger.{DevPart, LanePart, PairPart, SidePart, side_of, lane_of, lane_to, dev_of, tally_of}
-use Rattle.memory_model.specs.Memory.{Site}
+use Rattle.ledger_model.specs.Memory.{Site}
 use Rattle.bridge_regs.specs.Doorbell.{Doorbell}
 use Rattle.host_memory.specs.Memory.{Contents}
 use Rattle.posted_queue.specs.Flight.{Flight}

@@ -13,10 +13,10 @@ use Rattle.step_kinds.specs.declared.places.BridgeStep.{BridgeStep}
 use Rattle.step_kinds.specs.declared.places.BridgeStep.TheVariants.{Enable, Train, Break, DropDone, Offer, Check, Ready, Join, Land, Irq, Mask, Unmask, Spad, Poke, ShowMem, ShowPad, ShowQueue}
 use Rattle.step_kinds.specs.declared.places.QueueStep.{QueueStep}
 use Rattle.step_kinds.specs.declared.places.QueueStep.TheVariants.{Begin, QpDown, Xbegin, Post, Look, Copy, Clear, Ack, Wake}
-use Rattle.plan_model.specs.Device.{stopped_after_send, stays_stopped, count_accepted, count_refused, count_delivered}
-use Rattle.plan_model.specs.Ethernet.{ethernet_frame}
-use Rattle.plan_model.specs.Link.{is_up, enable_refusal, train_refusal, cut_refusal, drop_refusal}
-use Rattle.plan_model.specs.Plans.{dev_plan}
+use Rattle.pair_model.specs.Device.{stopped_after_send, stays_stopped, count_accepted, count_refused, count_delivered}
+use Rattle.pair_model.specs.Ethernet.{ethernet_frame}
+use Rattle.pair_model.specs.Link.{is_up, enable_refusal, train_refusal, cut_refusal, drop_refusal}
+use Rattle.pair_model.specs.Plans.{dev_plan}
 use Rattle.bridge_regs.specs.Doorbell.{with_masked}
 use Rattle.host_memory.specs.Memory.{bytes_at}
 use Rattle.bridge_pair.specs.Bridge.{Bridge, bells_of, bytes_of, flight_of, pads_of, with_bells}

@@ -6,9 +6,9 @@ use Rattle.std.proofs.lemmas.List.{drop_more, get_or-map, length-append, length-
 use Rattle.lane_model.specs.Lane.{Entry, GoesDown, bytes_of, chunks_in, count_from, left_of, writes_of}
 use Rattle.lane_model.specs.Tests.{is_empty_list}
 use Rattle.lane_model.proofs.Facade.{get_or-count_from, length-count_from}
-use Rattle.plan_model.specs.Labels.{label_of, labels_of}
-use Rattle.plan_model.specs.Pieces.{piece_of, pieces_of}
-use Rattle.plan_model.specs.Sizes.{pieces_in}
+use Rattle.pair_model.specs.Labels.{label_of, labels_of}
+use Rattle.pair_model.specs.Pieces.{piece_of, pieces_of}
+use Rattle.pair_model.specs.Sizes.{pieces_in}
 use Rattle.step_kinds.specs.declared.steps.Label.{Label}
 use Rattle.frame_ring.specs.Outgoing.{all_writes_in, carries_bytes, entries_under, entry_at, writes_in}
 use Rattle.frame_ring.specs.Port.{left_of_entry, writes_from}

@@ -4,14 +4,14 @@ use Rattle.step_kinds.specs.Sides.{other_side}
 use Rattle.step_kinds.specs.declared.names.Side.{Side}
 use Rattle.step_kinds.specs.declared.names.Side.TheVariants.{A, B}
 use Rattle.step_kinds.specs.declared.plan.PairPlan.{PairPlan}
-use Rattle.byte_model.specs.Addresses.{queue_address}
-use Rattle.byte_model.specs.RingWrites.{header_offset, slot_offset}
+use Rattle.pair_model.specs.Addresses.{queue_address}
+use Rattle.pair_model.specs.RingWrites.{header_offset, slot_offset}
 use Rattle.host_memory.specs.Memory.{ArePromised, Touches}
 use Rattle.lane_model.specs.Lane.{Entry, bytes_of}
-use Rattle.plan_model.specs.DeclaredPlans.{SizesFit}
-use Rattle.plan_model.specs.Pieces.{pieces_of}
-use Rattle.plan_model.specs.Plans.{side_plan}
-use Rattle.plan_model.specs.Sizes.{header_bytes, layout_of, pieces_in}
+use Rattle.pair_model.specs.DeclaredPlans.{SizesFit}
+use Rattle.pair_model.specs.Pieces.{pieces_of}
+use Rattle.pair_model.specs.Plans.{side_plan}
+use Rattle.pair_model.specs.Sizes.{header_bytes, layout_of, pieces_in}
 use Rattle.ring_geometry.specs.Geometry.{window_of}
 use Rattle.plan_numbers.specs.Memories.{memory_size}
 use Rattle.bridge_pair.specs.Bridge.{Bridge, IsBridge, bytes_of as memory_of, pages_of}

@@ -1,7 +1,7 @@
 -- A header, by the words that stand from its place on.
 use Rattle.std.proofs.Common.{◌≡◌, ◌∙◌, ◌+◌, ℕ, Bool, true, false, ◌==◌, sym, ap, arith, if◌then◌else◌}
-use Rattle.byte_model.specs.Headers.{header_with}
-use Rattle.plan_model.specs.Sizes.{agreed_version, header_bytes}
+use Rattle.pair_model.specs.Headers.{header_with}
+use Rattle.pair_model.specs.Sizes.{agreed_version, header_bytes}
 use Rattle.step_kinds.specs.declared.plan.PairPlan.{PairPlan}
 
 -- On version 5 the number of entries that follow stands first, then version, length and flags.

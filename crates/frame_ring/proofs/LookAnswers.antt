@@ -4,12 +4,12 @@ use Rattle.std.proofs.lemmas.Bool.{ltb-false}
 use Rattle.step_kinds.specs.Sides.{other_side}
 use Rattle.step_kinds.specs.declared.names.Side.{Side}
 use Rattle.step_kinds.specs.declared.names.Side.TheVariants.{A, B}
-use Rattle.byte_model.specs.Headers.{Found, Header, NoEntry, ALinkDownEntry, AnotherVersion, TooManyBytes, AnEntry, header_in}
+use Rattle.pair_model.specs.Headers.{Found, Header, NoEntry, ALinkDownEntry, AnotherVersion, TooManyBytes, AnEntry, header_in}
 use Rattle.lane_model.specs.Lane.{version_of}
 use Rattle.lane_model.specs.Tests.{is_idle}
 use Rattle.lane_model.specs.declared.Phase.{Phase}
 use Rattle.lane_model.specs.declared.Phase.TheVariants.{Idle, Copying, Copied, Cleared}
-use Rattle.plan_model.specs.Sizes.{Sizes, layout_to, sizes_in}
+use Rattle.pair_model.specs.Sizes.{Sizes, layout_to, sizes_in}
 use Rattle.ring_geometry.specs.Geometry.{max_payload_of}
 use Rattle.bridge_pair.specs.Bridge.{Bridge, pages_of, with_pages}
 use Rattle.frame_ring.specs.Calls.{after_look, entry_found, found_seen, look_answer, look_found}

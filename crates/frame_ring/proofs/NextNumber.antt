@@ -1,7 +1,7 @@
 -- A frame and an entry are begun under the number that is told next.
 use Rattle.std.proofs.Common.{◌≡◌, ◌∙◌, ℕ, Bool, true, false, List, length, nat_lt, refl, ap, if◌then◌else◌}
 use Rattle.step_kinds.specs.declared.lanes.Begun.TheVariants.{Ok as BegunOk, TooLong, Busy, NoRoom}
-use Rattle.plan_model.specs.Sizes.{pieces_in}
+use Rattle.pair_model.specs.Sizes.{pieces_in}
 use Rattle.bridge_pair.specs.Bridge.{Bridge}
 use Rattle.bridge_pair.specs.Pages.{PagesGrow}
 use Rattle.bridge_pair.proofs.Facade.{grows_further, grows_nothing}

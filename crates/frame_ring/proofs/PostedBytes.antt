@@ -7,8 +7,8 @@ use Rattle.bridge_pair.specs.Bridge.{Bridge, pages_of}
 use Rattle.bridge_pair.specs.Calls.{HasPages}
 use Rattle.bridge_pair.specs.Flights.{arrival_of}
 use Rattle.bridge_pair.specs.declared.write.Target.TheVariants.{ThroughWindow}
-use Rattle.byte_model.specs.RingWrites.{queue_write}
-use Rattle.plan_model.specs.Sizes.{layout_of}
+use Rattle.pair_model.specs.RingWrites.{queue_write}
+use Rattle.pair_model.specs.Sizes.{layout_of}
 use Rattle.ring_geometry.specs.Geometry.{window_of}
 use Rattle.frame_ring.specs.PortView.{IsReadyToLand, reaches}
 

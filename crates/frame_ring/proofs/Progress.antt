@@ -4,8 +4,8 @@ use Rattle.std.proofs.lemmas.Bool.Decides.{nat_tests}
 use Rattle.std.proofs.lemmas.List.{drop_all, drop_more}
 use Rattle.lane_model.specs.Lane.{Entry, GoesDown}
 use Rattle.lane_model.specs.Tests.{is_empty_list}
-use Rattle.plan_model.specs.Labels.{labels_of}
-use Rattle.plan_model.specs.Pieces.{pieces_of}
+use Rattle.pair_model.specs.Labels.{labels_of}
+use Rattle.pair_model.specs.Pieces.{pieces_of}
 use Rattle.step_kinds.specs.declared.steps.Label.{Label}
 use Rattle.frame_ring.specs.Calls.{entries_begun, let_go, next_begun, rest_of}
 use Rattle.frame_ring.specs.Outgoing.{all_writes_in, entry_at, progress_at, writes_in}

@@ -6,8 +6,8 @@ use Rattle.step_kinds.specs.declared.names.Side.TheVariants.{A, B}
 use Rattle.step_kinds.specs.declared.steps.Label.{Label}
 use Rattle.lane_model.specs.Lane.{Entry, GoesDown, bytes_of}
 use Rattle.lane_model.specs.Tests.{is_empty_list}
-use Rattle.plan_model.specs.Labels.{labels_of}
-use Rattle.plan_model.specs.Pieces.{pieces_of}
+use Rattle.pair_model.specs.Labels.{labels_of}
+use Rattle.pair_model.specs.Pieces.{pieces_of}
 use Rattle.bridge_pair.specs.Bridge.{Bridge, flight_of, pages_of, with_pages}
 use Rattle.bridge_pair.specs.Pages.{PagesGrow}
 use Rattle.bridge_pair.proofs.Facade.{grows_further, grows_nothing, promised_still}

@@ -6,13 +6,13 @@ use Rattle.step_kinds.specs.Sides.{other_side}
 use Rattle.step_kinds.specs.declared.names.Side.{Side}
 use Rattle.step_kinds.specs.declared.names.Side.TheVariants.{A, B}
 use Rattle.step_kinds.specs.declared.plan.PairPlan.{PairPlan}
-use Rattle.byte_model.specs.Addresses.{own_header}
-use Rattle.byte_model.specs.Headers.{Found, Header, NoEntry, ALinkDownEntry, AnotherVersion, TooManyBytes, AnEntry, flags_offset, header_in}
-use Rattle.byte_model.specs.RingWrites.{WindowWrite, entry_write, index_write}
+use Rattle.pair_model.specs.Addresses.{own_header}
+use Rattle.pair_model.specs.Headers.{Found, Header, NoEntry, ALinkDownEntry, AnotherVersion, TooManyBytes, AnEntry, flags_offset, header_in}
+use Rattle.pair_model.specs.RingWrites.{WindowWrite, entry_write, index_write}
 use Rattle.host_memory.specs.Memory.{ArePromised, Touches}
 use Rattle.lane_model.specs.Lane.{version_of}
 use Rattle.lane_model.specs.Tests.{is_idle}
-use Rattle.plan_model.specs.Sizes.{Sizes, layout_to, sizes_in}
+use Rattle.pair_model.specs.Sizes.{Sizes, layout_to, sizes_in}
 use Rattle.lane_model.specs.declared.Phase.TheVariants.{Copying}
 use Rattle.bridge_pair.specs.Bridge.{Bridge, pages_of, with_pages}
 use Rattle.bridge_pair.specs.Pages.{PagesGrow}

@@ -4,15 +4,15 @@ use Rattle.step_kinds.specs.declared.names.Side.{Side}
 use Rattle.step_kinds.specs.declared.names.Side.TheVariants.{A, B}
 use Rattle.step_kinds.specs.declared.steps.Label.{Label}
 use Rattle.step_kinds.specs.declared.steps.Label.TheVariants.{Chunk, Len, Ver, Flag, Down, Bell, Index, Pad, Raw}
-use Rattle.byte_model.specs.Addresses.{own_header}
-use Rattle.byte_model.specs.Headers.{flags_offset}
-use Rattle.byte_model.specs.RingWrites.{WindowWrite, index_write}
+use Rattle.pair_model.specs.Addresses.{own_header}
+use Rattle.pair_model.specs.Headers.{flags_offset}
+use Rattle.pair_model.specs.RingWrites.{WindowWrite, index_write}
 use Rattle.host_memory.specs.Memory.{ArePromised}
 use Rattle.lane_model.specs.Lane.{Entry, GoesDown}
 use Rattle.lane_model.specs.Tests.{is_cleared, is_copied, is_copying, is_empty_list, is_idle}
 use Rattle.lane_model.specs.declared.Phase.{Phase}
 use Rattle.lane_model.specs.declared.Phase.TheVariants.{Idle, Copying, Copied, Cleared}
-use Rattle.plan_model.specs.Labels.{labels_of}
+use Rattle.pair_model.specs.Labels.{labels_of}
 use Rattle.bridge_pair.specs.Bridge.{Bridge, pages_of, with_bytes}
 use Rattle.frame_ring.specs.Calls.{after_post, first_label, first_posted, let_go, more_entries, more_parts, next_begun, part_copied, posted_by, rest_of}
 use Rattle.frame_ring.specs.Port.{Left, PortState, Receiving, Sending, is_busy, left_of_entry, with_receiving, writes_from}

@@ -4,8 +4,8 @@ use Rattle.std.proofs.Math.Nat.{add-mul-div_left, div-add-mod, mul-suc}
 use Rattle.std.proofs.lemmas.Nat.{mul-le}
 use Rattle.std.proofs.lemmas.List.{drop_all, drop_more, drop-drop, length-drop, take-append-drop}
 use Rattle.lane_model.specs.Lane.{Entry, Carries, GoesDown}
-use Rattle.plan_model.specs.Pieces.{pieces_of}
-use Rattle.plan_model.specs.Sizes.{pieces_in}
+use Rattle.pair_model.specs.Pieces.{pieces_of}
+use Rattle.pair_model.specs.Sizes.{pieces_in}
 use Rattle.frame_ring.specs.Outgoing.{entries_under, entry_at}
 use Rattle.frame_ring.proofs.Entries.{length-pieces_of, piece_at}
 

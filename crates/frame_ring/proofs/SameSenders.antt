@@ -5,7 +5,7 @@ use Rattle.std.proofs.lemmas.Bool.Decides.{nat_tests}
 use Rattle.std.proofs.lemmas.List.{drop_more}
 use Rattle.lane_model.specs.Lane.{Entry, GoesDown}
 use Rattle.lane_model.specs.Tests.{is_empty_list}
-use Rattle.plan_model.specs.Labels.{labels_of}
+use Rattle.pair_model.specs.Labels.{labels_of}
 use Rattle.frame_ring.specs.Outgoing.{IsSender, Outgoing, all_writes_in, entries_under, entry_at, sender_seen, writes_in}
 use Rattle.frame_ring.specs.Port.{is_busy}
 use Rattle.frame_ring.specs.Same.{IsSameSending}

@@ -4,12 +4,12 @@ use Rattle.step_kinds.specs.declared.names.Side.{Side}
 use Rattle.step_kinds.specs.declared.names.Side.TheVariants.{A, B}
 use Rattle.step_kinds.specs.declared.steps.Label.{Label}
 use Rattle.step_kinds.specs.declared.steps.Label.TheVariants.{Chunk, Len, Ver, Flag, Down, Bell, Index, Pad, Raw}
-use Rattle.byte_model.specs.RingWrites.{WindowWrite}
+use Rattle.pair_model.specs.RingWrites.{WindowWrite}
 use Rattle.lane_model.specs.Lane.{Entry}
 use Rattle.lane_model.specs.Tests.{is_copied, is_copying, is_idle}
 use Rattle.lane_model.specs.declared.Phase.{Phase}
 use Rattle.lane_model.specs.declared.Phase.TheVariants.{Idle, Copying, Copied, Cleared}
-use Rattle.plan_model.specs.Link.{is_up}
+use Rattle.pair_model.specs.Link.{is_up}
 use Rattle.posted_queue.specs.Flight.{Flight, given_back, posted}
 use Rattle.bridge_pair.specs.Bridge.{Bridge, flight_of, with_flight}
 use Rattle.bridge_pair.specs.Calls.{after_post as after_posting}

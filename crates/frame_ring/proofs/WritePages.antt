@@ -6,13 +6,13 @@ use Rattle.std.proofs.lemmas.List.Elements.{All-append}
 use Rattle.step_kinds.specs.declared.plan.PairPlan.{PairPlan}
 use Rattle.step_kinds.specs.declared.steps.Label.{Label}
 use Rattle.step_kinds.specs.declared.steps.Label.TheVariants.{Chunk, Len, Ver, Flag, Down}
-use Rattle.byte_model.specs.Addresses.{queue_address}
-use Rattle.byte_model.specs.Headers.{flags_offset, len_offset, version_bytes, word_bytes}
-use Rattle.byte_model.specs.RingWrites.{entry_write, header_offset, queue_write, slot_offset}
+use Rattle.pair_model.specs.Addresses.{queue_address}
+use Rattle.pair_model.specs.Headers.{flags_offset, len_offset, version_bytes, word_bytes}
+use Rattle.pair_model.specs.RingWrites.{entry_write, header_offset, queue_write, slot_offset}
 use Rattle.host_memory.specs.Memory.{ArePromised}
 use Rattle.lane_model.specs.Lane.{Entry, bytes_of, chunk_of, chunk_size, chunks_in, count_from, done, left_of}
-use Rattle.plan_model.specs.Labels.{labels_of}
-use Rattle.plan_model.specs.Sizes.{agreed_version, header_bytes}
+use Rattle.pair_model.specs.Labels.{labels_of}
+use Rattle.pair_model.specs.Sizes.{agreed_version, header_bytes}
 use Rattle.frame_ring.specs.Outgoing.{carries_bytes, entry_at}
 use Rattle.frame_ring.specs.Port.{Left, left_of_entry, writes_from}
 use Rattle.frame_ring.specs.Promises.{AreEntriesPromised, IsEntryPromised, IsRangePromised, TouchesEntries, TouchesEntry, TouchesRange}

@@ -11,13 +11,13 @@ use Rattle.lane_model.specs.Lane.{Entry, GoesDown, chunks_in}
 use Rattle.lane_model.specs.Ring.{head_of}
 use Rattle.lane_model.specs.Tests.{is_empty_list, is_idle, is_copying, is_copied, is_cleared}
 use Rattle.lane_model.specs.declared.Phase.TheVariants.{Idle, Copying, Copied, Cleared}
-use Rattle.plan_model.specs.Labels.{labels_of}
-use Rattle.plan_model.specs.Pieces.{pieces_of}
-use Rattle.plan_model.specs.Refusals.{Test, OfLength, OfBusy, OfRoom, OfPhase, in_begin_order, in_look_order}
-use Rattle.plan_model.specs.Sizes.{Sizes, sizes_of, pieces_in}
-use Rattle.byte_model.specs.Addresses.{own_header, own_index_word}
-use Rattle.byte_model.specs.Headers.{Found, NoEntry, ALinkDownEntry, AnotherVersion, TooManyBytes, AnEntry, found_in_memory, part_in_memory, index_word_in, free_in_memory, flags_offset}
-use Rattle.byte_model.specs.RingWrites.{index_write}
+use Rattle.pair_model.specs.Labels.{labels_of}
+use Rattle.pair_model.specs.Pieces.{pieces_of}
+use Rattle.pair_model.specs.Refusals.{Test, OfLength, OfBusy, OfRoom, OfPhase, in_begin_order, in_look_order}
+use Rattle.pair_model.specs.Sizes.{Sizes, sizes_of, pieces_in}
+use Rattle.pair_model.specs.Addresses.{own_header, own_index_word}
+use Rattle.pair_model.specs.Headers.{Found, NoEntry, ALinkDownEntry, AnotherVersion, TooManyBytes, AnEntry, found_in_memory, part_in_memory, index_word_in, free_in_memory, flags_offset}
+use Rattle.pair_model.specs.RingWrites.{index_write}
 use Rattle.host_memory.specs.Memory.{Touches}
 use Rattle.posted_queue.specs.Flight.{given_back}
 use Rattle.plan_numbers.specs.Memories.{memory_size}

@@ -4,8 +4,8 @@ use Rattle.step_kinds.specs.declared.steps.Label.{Label}
 use Rattle.step_kinds.specs.declared.steps.Label.TheVariants.{Chunk, Len, Ver, Flag, Down, Bell}
 use Rattle.step_kinds.specs.Limits.{most_frame_bytes}
 use Rattle.lane_model.specs.Lane.{Entry, Carries, GoesDown, bytes_of, chunks_in}
-use Rattle.plan_model.specs.Labels.{labels_of}
-use Rattle.plan_model.specs.Pieces.{pieces_of}
+use Rattle.pair_model.specs.Labels.{labels_of}
+use Rattle.pair_model.specs.Pieces.{pieces_of}
 use Rattle.frame_ring.specs.Port.{Sending, left_of_entry, writes_from}
 use Rattle.frame_ring.specs.declared.sending.Sender.TheInside.{Inside as SenderInside}
 

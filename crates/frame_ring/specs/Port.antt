@@ -8,7 +8,7 @@ use Rattle.lane_model.specs.Lane.{Entry, GoesDown}
 use Rattle.lane_model.specs.Tests.{is_empty_list, is_idle}
 use Rattle.lane_model.specs.declared.Phase.{Phase}
 use Rattle.lane_model.specs.declared.Phase.TheVariants.{Idle}
-use Rattle.plan_model.specs.Labels.{labels_of}
+use Rattle.pair_model.specs.Labels.{labels_of}
 
 pub record Sending : Type 0 where
   -- how many entries and how many frames were begun

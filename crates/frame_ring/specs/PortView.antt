@@ -7,12 +7,12 @@ use Rattle.step_kinds.specs.declared.steps.Label.{Label}
 use Rattle.step_kinds.specs.declared.steps.Label.TheVariants.{Bell, Index}
 use Rattle.lane_model.specs.Lane.{Entry}
 use Rattle.lane_model.specs.Tests.{is_idle, is_copying}
-use Rattle.plan_model.specs.DeclaredPlans.{SizesFit}
-use Rattle.plan_model.specs.Plans.{side_plan}
-use Rattle.byte_model.specs.Addresses.{own_header}
-use Rattle.byte_model.specs.Headers.{Bytes, flags_offset}
-use Rattle.byte_model.specs.FreshRings.{zeroed_flags}
-use Rattle.byte_model.specs.RingWrites.{WindowWrite, entry_write, index_write, store_of_write}
+use Rattle.pair_model.specs.DeclaredPlans.{SizesFit}
+use Rattle.pair_model.specs.Plans.{side_plan}
+use Rattle.pair_model.specs.Addresses.{own_header}
+use Rattle.pair_model.specs.Headers.{Bytes, flags_offset}
+use Rattle.pair_model.specs.FreshRings.{zeroed_flags}
+use Rattle.pair_model.specs.RingWrites.{WindowWrite, entry_write, index_write, store_of_write}
 use Rattle.host_memory.specs.Memory.{ArePromised, Touches, bytes_at, written}
 use Rattle.posted_queue.specs.Flight.{given_back, promised}
 use Rattle.bridge_pair.specs.Bridge.{Bridge, bytes_of, pages_of, flight_of, with_bytes, with_flight}

@@ -1,8 +1,8 @@
 -- A port, as the crate keeps it.
 use Rattle.std.specs.Prelude.{◌≡◌, ◌≤◌, true, false}
 use Rattle.lane_model.specs.Tests.{is_copying, is_idle}
-use Rattle.plan_model.specs.DeclaredPlans.{SizesFit}
-use Rattle.plan_model.specs.Sizes.{layout_to, sizes_of}
+use Rattle.pair_model.specs.DeclaredPlans.{SizesFit}
+use Rattle.pair_model.specs.Sizes.{layout_to, sizes_of}
 use Rattle.ring_geometry.specs.Geometry.{max_payload_of}
 use Rattle.frame_ring.specs.Port.{PortState, is_busy}
 use Rattle.frame_ring.specs.declared.port.Port.TheInside.{Inside}

@@ -1,10 +1,10 @@
 -- The pages that a frame or a link-down entry needs in the peer's memory, by the ranges that its entries fill.
 use Rattle.std.specs.Prelude.{◌≡◌, ℕ, ◌+◌, ◌<◌, ◌⊎◌, true, List, length}
-use Rattle.byte_model.specs.Addresses.{queue_address}
-use Rattle.byte_model.specs.RingWrites.{header_offset, slot_offset}
+use Rattle.pair_model.specs.Addresses.{queue_address}
+use Rattle.pair_model.specs.RingWrites.{header_offset, slot_offset}
 use Rattle.host_memory.specs.Memory.{ArePromised, Touches}
 use Rattle.lane_model.specs.Lane.{Entry, bytes_of}
-use Rattle.plan_model.specs.Sizes.{header_bytes, layout_of}
+use Rattle.pair_model.specs.Sizes.{header_bytes, layout_of}
 use Rattle.ring_geometry.specs.Geometry.{window_of}
 use Rattle.frame_ring.specs.Outgoing.{entry_at}
 use Rattle.frame_ring.specs.Rings.{QueueOf}

@@ -2,11 +2,11 @@
 use Rattle.std.specs.Prelude.{◌≡◌, ℕ, ◌^◌, ◌<◌}
 use Rattle.step_kinds.specs.declared.names.Side.{Side}
 use Rattle.step_kinds.specs.declared.plan.PairPlan.{PairPlan}
-use Rattle.plan_model.specs.DeclaredPlans.{IsPair}
-use Rattle.plan_model.specs.Plans.{side_plan}
-use Rattle.plan_model.specs.Sizes.{layout_of, layout_to}
+use Rattle.pair_model.specs.DeclaredPlans.{IsPair}
+use Rattle.pair_model.specs.Plans.{side_plan}
+use Rattle.pair_model.specs.Sizes.{layout_of, layout_to}
 use Rattle.ring_geometry.specs.Geometry.{window_of}
-use Rattle.byte_model.specs.Headers.{Header}
+use Rattle.pair_model.specs.Headers.{Header}
 use Rattle.frame_ring.specs.declared.reading.HeaderWords.{HeaderWords}
 use Rattle.frame_ring.specs.declared.rings.QueueRings.TheInside.{Inside as RingsInside}
 

@@ -4,15 +4,15 @@ ghost use Rattle.std.specs.Prelude.{◌≡◌, ◌+◌, ◌<◌, ◌≤◌, OnOk
 ghost use Rattle.step_kinds.specs.Limits.{most_frame_bytes};
 ghost use Rattle.bridge_pair.specs.Bridge.{pages_of, with_pages};
 ghost use Rattle.bridge_pair.specs.Pages.{PagesGrow};
-ghost use Rattle.byte_model.specs.Addresses.{own_header};
-ghost use Rattle.byte_model.specs.Headers.{flags_offset as offset_of_flags};
+ghost use Rattle.pair_model.specs.Addresses.{own_header};
+ghost use Rattle.pair_model.specs.Headers.{flags_offset as offset_of_flags};
 ghost use Rattle.frame_ring.specs.Outgoing.{all_writes_in, most_numbers, most_writes_left};
 ghost use Rattle.frame_ring.specs.Promises.{AreEntriesPromised, IsEntryPromised, IsRangePromised, TouchesEntries, TouchesEntry, TouchesRange};
 ghost use Rattle.host_memory.specs.Memory.{ArePromised, Touches};
-ghost use Rattle.plan_model.specs.DeclaredPlans.{SizesFit};
-ghost use Rattle.plan_model.specs.Pieces.{pieces_of};
-ghost use Rattle.plan_model.specs.Plans.{side_plan as side_plan_of};
-ghost use Rattle.plan_model.specs.Sizes.{layout_of, sizes_of};
+ghost use Rattle.pair_model.specs.DeclaredPlans.{SizesFit};
+ghost use Rattle.pair_model.specs.Pieces.{pieces_of};
+ghost use Rattle.pair_model.specs.Plans.{side_plan as side_plan_of};
+ghost use Rattle.pair_model.specs.Sizes.{layout_of, sizes_of};
 ghost use Rattle.ring_geometry.specs.Geometry.{index_of};
 ghost use Rattle.step_kinds.specs.Sides.{other_side};
 

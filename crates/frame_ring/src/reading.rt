@@ -2,13 +2,13 @@
 
 ghost use Rattle.std.specs.Prelude.{◌≡◌, ℕ, ◌+◌, ◌%◌, ◌*◌, ◌<◌, ◌≤◌, nat_le};
 ghost use Rattle.plan_numbers.specs.Memories.{memory_size};
-ghost use Rattle.byte_model.specs.Addresses.{own_address as address_in_window, own_header, own_index_word, own_slot};
-ghost use Rattle.byte_model.specs.Headers.{flags_offset as offset_of_flags, free_in_memory, header_in, index_word_in, word_at};
+ghost use Rattle.pair_model.specs.Addresses.{own_address as address_in_window, own_header, own_index_word, own_slot};
+ghost use Rattle.pair_model.specs.Headers.{flags_offset as offset_of_flags, free_in_memory, header_in, index_word_in, word_at};
 ghost use Rattle.frame_ring.specs.Rings.{header_of, address_limit};
 ghost use Rattle.frame_ring.specs.PortView.{bytes_seen};
-ghost use Rattle.plan_model.specs.DeclaredPlans.{SizesFit};
-ghost use Rattle.plan_model.specs.Plans.{side_plan as side_plan_of};
-ghost use Rattle.plan_model.specs.Sizes.{header_bytes as bytes_of_header, layout_to, sizes_of};
+ghost use Rattle.pair_model.specs.DeclaredPlans.{SizesFit};
+ghost use Rattle.pair_model.specs.Plans.{side_plan as side_plan_of};
+ghost use Rattle.pair_model.specs.Sizes.{header_bytes as bytes_of_header, layout_to, sizes_of};
 ghost use Rattle.ring_geometry.specs.Geometry.{max_payload_of};
 
 use crate::rings::{QueueRings, slot_in};

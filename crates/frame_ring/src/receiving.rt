@@ -3,7 +3,7 @@
 ghost use Rattle.std.specs.Prelude.{◌≡◌, ◌↔◌, ℕ, ◌+◌, ◌-◌, ◌*◌, ◌<◌, ◌≤◌, ◌++◌, IfOk, IsSome, IsTrue, OnErr, OnOk, length, min, true};
 ghost use Rattle.lane_model.specs.Lane.{chunk_size};
 ghost use Rattle.bridge_pair.specs.Bridge.{bytes_of};
-ghost use Rattle.byte_model.specs.Headers.{found_with};
+ghost use Rattle.pair_model.specs.Headers.{found_with};
 ghost use Rattle.frame_ring.specs.Calls.{frame_of_copy, last_got, look_found, part_answer, part_copied};
 ghost use Rattle.frame_ring.specs.Incoming.{next_part};
 ghost use Rattle.frame_ring.specs.Outgoing.{most_numbers};
@@ -14,7 +14,7 @@ ghost use Rattle.frame_ring.specs.declared.RingLook.TheVariants.{Ready};
 ghost use Rattle.host_memory.specs.Memory.{bytes_at};
 ghost use Rattle.lane_model.specs.Tests.{is_cleared, is_copied, is_copying, is_idle};
 ghost use Rattle.lane_model.specs.declared.Phase.TheVariants.{Cleared, Copying, Idle};
-ghost use Rattle.plan_model.specs.Sizes.{sizes_in, layout_to};
+ghost use Rattle.pair_model.specs.Sizes.{sizes_in, layout_to};
 ghost use Rattle.step_kinds.specs.Limits.{most_frame_bytes};
 
 use crate::RingLook;

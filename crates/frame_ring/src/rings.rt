@@ -3,14 +3,14 @@
 ghost use Rattle.std.specs.Prelude.{◌≡◌, ◌==◌, ◌+◌, ◌*◌, ◌%◌, ◌<◌, ◌≤◌};
 ghost use Rattle.step_kinds.specs.Limits.{most_frame_bytes};
 ghost use Rattle.plan_numbers.specs.Memories.{memory_size};
-ghost use Rattle.byte_model.specs.Addresses.{own_address as own_address_of, own_header, own_index_word, own_slot};
-ghost use Rattle.byte_model.specs.Headers.{flags_offset as offset_of_flags};
-ghost use Rattle.byte_model.specs.RingWrites.{header_offset, slot_offset};
+ghost use Rattle.pair_model.specs.Addresses.{own_address as own_address_of, own_header, own_index_word, own_slot};
+ghost use Rattle.pair_model.specs.Headers.{flags_offset as offset_of_flags};
+ghost use Rattle.pair_model.specs.RingWrites.{header_offset, slot_offset};
 ghost use Rattle.frame_ring.specs.Rings.{IsQueueOf};
 ghost use Rattle.lane_model.specs.Ring.{free_entries};
-ghost use Rattle.plan_model.specs.DeclaredPlans.{IsPair, SizesFit};
-ghost use Rattle.plan_model.specs.Plans.{side_plan as side_plan_of};
-ghost use Rattle.plan_model.specs.Sizes.{agreed_version, header_bytes as bytes_of_header, layout_of, layout_to, sizes_in, sizes_of};
+ghost use Rattle.pair_model.specs.DeclaredPlans.{IsPair, SizesFit};
+ghost use Rattle.pair_model.specs.Plans.{side_plan as side_plan_of};
+ghost use Rattle.pair_model.specs.Sizes.{agreed_version, header_bytes as bytes_of_header, layout_of, layout_to, sizes_in, sizes_of};
 ghost use Rattle.ring_geometry.specs.Geometry.{IsPlaced, entries_of, frame_size, header_of, index_of, max_payload_of, slot_of, window_of};
 
 use plan_numbers::{copy_of, receiving_ring, sending_ring, speaks_five};

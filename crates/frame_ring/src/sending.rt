@@ -8,8 +8,8 @@ ghost use Rattle.frame_ring.specs.Port.{is_busy as is_busy_by, nothing_sent};
 ghost use Rattle.frame_ring.specs.Same.{IsSameSending};
 ghost use Rattle.lane_model.specs.Lane.{GoesDown, bytes_of, chunk_of, chunks_in, left_of};
 ghost use Rattle.lane_model.specs.Tests.{is_empty_list};
-ghost use Rattle.plan_model.specs.Pieces.{pieces_of};
-ghost use Rattle.plan_model.specs.Sizes.{pieces_in as pieces_by};
+ghost use Rattle.pair_model.specs.Pieces.{pieces_of};
+ghost use Rattle.pair_model.specs.Sizes.{pieces_in as pieces_by};
 
 use plan_numbers::{pieces_in, writes_in};
 use std::alloc::{AllocError, Global};

@@ -1,7 +1,7 @@
 -- What a side has reached, with one queue more.
 use Rattle.std.proofs.Common.{◌≡◌, ℕ, ◌+◌, ◌<◌, ◌^◌, arith}
 use Rattle.std.proofs.lemmas.Nat.{or_lt, pow_below}
-use Rattle.plan_model.specs.Plans.{side_plan}
+use Rattle.pair_model.specs.Plans.{side_plan}
 use Rattle.step_kinds.specs.Bits.{with_bit}
 use Rattle.step_kinds.specs.declared.names.Side.{Side}
 use Rattle.step_kinds.specs.declared.plan.PairPlan.{PairPlan}

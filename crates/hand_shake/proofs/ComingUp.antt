@@ -1,6 +1,6 @@
 -- A side that comes up.
 use Rattle.std.proofs.Common.{◌≡◌, ℕ, inl, inr, true, List, ap, ◌∙◌, refl, sym, subst}
-use Rattle.byte_model.specs.FreshRings.{fresh_index_words, zeroed_headers}
+use Rattle.pair_model.specs.FreshRings.{fresh_index_words, zeroed_headers}
 use Rattle.step_kinds.specs.declared.names.Side.{Side}
 use Rattle.step_kinds.specs.declared.names.Side.TheVariants.{A, B}
 use Rattle.bridge_pair.specs.Bridge.{Bridge, book_of, bytes_of, pages_of, with_book, with_bytes, with_pages}

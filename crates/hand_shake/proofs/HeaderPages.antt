@@ -4,13 +4,13 @@ use Rattle.std.proofs.Math.Nat.{add-mul, mod-eq_of_lt, mul-le-mul_right}
 use Rattle.std.proofs.lemmas.Bool.{cases_lt}
 use Rattle.std.proofs.lemmas.List.{length-replicate, take-replicate}
 use Rattle.std.specs.List.{flat_map}
-use Rattle.byte_model.specs.Addresses.{own_header}
-use Rattle.byte_model.specs.Stores.{Store}
+use Rattle.pair_model.specs.Addresses.{own_header}
+use Rattle.pair_model.specs.Stores.{Store}
 use Rattle.host_memory.specs.Memory.{ArePromised, Touches, written}
 use Rattle.lane_model.specs.Lane.{count_from}
-use Rattle.byte_model.specs.FreshRings.{zeroed_header}
-use Rattle.plan_model.specs.Plans.{side_plan}
-use Rattle.plan_model.specs.Sizes.{agreed_version, header_bytes, layout_to}
+use Rattle.pair_model.specs.FreshRings.{zeroed_header}
+use Rattle.pair_model.specs.Plans.{side_plan}
+use Rattle.pair_model.specs.Sizes.{agreed_version, header_bytes, layout_to}
 use Rattle.ring_geometry.specs.Geometry.{Layout, entries_of, frame_size, header_of, window_of}
 use Rattle.step_kinds.specs.declared.names.Side.{Side}
 use Rattle.step_kinds.specs.declared.names.Side.TheVariants.{A, B}

@@ -1,8 +1,8 @@
 -- The offer of a side of a declared pair.
 use Rattle.std.proofs.Common.{◌≡◌, ◌≢◌, ◌+◌, ◌*◌, ◌<◌, ◌≤◌, length, arith}
-use Rattle.plan_model.specs.Pads.{offers}
-use Rattle.plan_model.specs.DeclaredPlans.{IsPair, IsSide}
-use Rattle.plan_model.specs.Plans.{side_plan}
+use Rattle.pair_model.specs.Pads.{offers}
+use Rattle.pair_model.specs.DeclaredPlans.{IsPair, IsSide}
+use Rattle.pair_model.specs.Plans.{side_plan}
 use Rattle.step_kinds.specs.declared.names.Side.{Side}
 use Rattle.step_kinds.specs.declared.names.Side.TheVariants.{A, B}
 use Rattle.step_kinds.specs.declared.plan.PairPlan.{PairPlan}

@@ -2,12 +2,12 @@
 use Rattle.std.proofs.Common.{◌≡◌, ℕ, zero, suc, ◌+◌, ◌-◌, ◌<◌, ◌≤◌, List, ◌∷◌, ◌++◌, length, map, replicate, inl, inr, refl, sym, ap, ◌∙◌, subst, add-zero, zero-add, arith}
 use Rattle.std.proofs.lemmas.Bool.{cases_lt}
 use Rattle.std.proofs.lemmas.List.{map-append}
-use Rattle.byte_model.specs.Addresses.{own_header}
-use Rattle.byte_model.specs.FreshRings.{zeroed_header}
-use Rattle.byte_model.specs.Stores.{Store}
+use Rattle.pair_model.specs.Addresses.{own_header}
+use Rattle.pair_model.specs.FreshRings.{zeroed_header}
+use Rattle.pair_model.specs.Stores.{Store}
 use Rattle.host_memory.specs.Memory.{AreZero, written}
 use Rattle.lane_model.specs.Lane.{count_from}
-use Rattle.plan_model.specs.Sizes.{header_bytes, layout_to}
+use Rattle.pair_model.specs.Sizes.{header_bytes, layout_to}
 use Rattle.ring_geometry.specs.Geometry.{entries_of}
 use Rattle.step_kinds.specs.declared.names.Side.{Side}
 use Rattle.step_kinds.specs.declared.plan.PairPlan.{PairPlan}

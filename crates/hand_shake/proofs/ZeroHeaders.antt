@@ -11,10 +11,10 @@ use Rattle.step_kinds.specs.declared.names.Side.{Side}
 use Rattle.step_kinds.specs.declared.names.Side.TheVariants.{A, B}
 use Rattle.step_kinds.specs.declared.plan.PairPlan.{PairPlan}
 use Rattle.lane_model.specs.Lane.{count_from}
-use Rattle.plan_model.specs.Sizes.{header_bytes, layout_to}
+use Rattle.pair_model.specs.Sizes.{header_bytes, layout_to}
 use Rattle.ring_geometry.specs.Geometry.{entries_of}
-use Rattle.byte_model.specs.Addresses.{own_header}
-use Rattle.byte_model.specs.FreshRings.{zeroed_header}
+use Rattle.pair_model.specs.Addresses.{own_header}
+use Rattle.pair_model.specs.FreshRings.{zeroed_header}
 use Rattle.bridge_pair.specs.Bridge.{Bridge, bytes_of, pages_of, with_bytes}
 use Rattle.bridge_pair.specs.Ends.{bytes_after}
 use Rattle.hand_shake.specs.Headers.{AreHeadersOfReady, AreSomeZeroed, IsHeaderReady, ring_stores}

@@ -1,10 +1,10 @@
 -- Checking: a side compares the peer's offer, as it stands in the side's own scratchpads, with its own numbers.
 use Rattle.std.specs.Prelude.{◌≡◌, ℕ, ◌==◌, ◌⊎◌, not, true, Option, Some, None, List, ◌++◌, slice_index, if◌then◌else◌}
-use Rattle.plan_model.specs.Link.{is_up}
-use Rattle.byte_model.specs.FreshRings.{fresh_index_words, zeroed_headers}
-use Rattle.plan_model.specs.Pads.{version_pad, queues_pad, windows_pad, size_in, versions_differ, first_larger}
-use Rattle.plan_model.specs.Plans.{side_plan}
-use Rattle.plan_model.specs.Refusals.{Test, OfLink, OfCheck, OfOffer, OfVersion, OfQueues, OfWindows, OfSizes, in_check_order}
+use Rattle.pair_model.specs.Link.{is_up}
+use Rattle.pair_model.specs.FreshRings.{fresh_index_words, zeroed_headers}
+use Rattle.pair_model.specs.Pads.{version_pad, queues_pad, windows_pad, size_in, versions_differ, first_larger}
+use Rattle.pair_model.specs.Plans.{side_plan}
+use Rattle.pair_model.specs.Refusals.{Test, OfLink, OfCheck, OfOffer, OfVersion, OfQueues, OfWindows, OfSizes, in_check_order}
 use Rattle.step_kinds.specs.declared.plan.SidePlan.{SidePlan}
 use Rattle.step_kinds.specs.declared.names.Side.{Side}
 use Rattle.step_kinds.specs.declared.plan.PairPlan.{PairPlan}

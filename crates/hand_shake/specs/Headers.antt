@@ -1,12 +1,12 @@
 -- The headers of the rings that a side receives in.
 use Rattle.std.specs.Prelude.{◌≡◌, ℕ, ◌+◌, ◌<◌, ◌≤◌, ◌⊎◌, List, map, slice_index_or}
-use Rattle.byte_model.specs.Stores.{Store}
+use Rattle.pair_model.specs.Stores.{Store}
 use Rattle.lane_model.specs.Lane.{count_from}
-use Rattle.byte_model.specs.FreshRings.{zeroed_header}
-use Rattle.byte_model.specs.Addresses.{own_header}
+use Rattle.pair_model.specs.FreshRings.{zeroed_header}
+use Rattle.pair_model.specs.Addresses.{own_header}
 use Rattle.host_memory.specs.Memory.{ArePromised, Touches}
-use Rattle.plan_model.specs.Plans.{side_plan}
-use Rattle.plan_model.specs.Sizes.{header_bytes, layout_to}
+use Rattle.pair_model.specs.Plans.{side_plan}
+use Rattle.pair_model.specs.Sizes.{header_bytes, layout_to}
 use Rattle.ring_geometry.specs.Geometry.{Layout, entries_of}
 use Rattle.step_kinds.specs.declared.names.Side.{Side}
 use Rattle.step_kinds.specs.declared.plan.PairPlan.{PairPlan}

@@ -3,10 +3,10 @@ use Rattle.std.specs.Prelude.{ℕ, ◌+◌, ◌==◌, not, [], ◌∷◌, ◌++�
 use Rattle.step_kinds.specs.declared.names.Side.{Side}
 use Rattle.step_kinds.specs.declared.steps.Label.{Label}
 use Rattle.step_kinds.specs.declared.steps.Label.TheVariants.{Pad}
-use Rattle.plan_model.specs.Pads.{offers, pad_index}
-use Rattle.plan_model.specs.Link.{is_up}
-use Rattle.plan_model.specs.Plans.{side_plan}
-use Rattle.plan_model.specs.Refusals.{Test, OfLink, OfOffer, in_offer_order}
+use Rattle.pair_model.specs.Pads.{offers, pad_index}
+use Rattle.pair_model.specs.Link.{is_up}
+use Rattle.pair_model.specs.Plans.{side_plan}
+use Rattle.pair_model.specs.Refusals.{Test, OfLink, OfOffer, in_offer_order}
 use Rattle.bridge_pair.specs.Bridge.{Bridge, book_of, flight_of, with_book, with_flight}
 use Rattle.bridge_pair.specs.Flights.{flying_of}
 use Rattle.bridge_pair.specs.Writes.{PostedWrite, pad_write}

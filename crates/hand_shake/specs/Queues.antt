@@ -2,9 +2,9 @@
 use Rattle.std.specs.Prelude.{ℕ, not, slice_index, if◌then◌else◌}
 use Rattle.step_kinds.specs.Bits.{has_bit, with_bit}
 use Rattle.step_kinds.specs.declared.names.Side.{Side}
-use Rattle.plan_model.specs.Link.{is_up}
-use Rattle.plan_model.specs.Pads.{links_pad}
-use Rattle.plan_model.specs.Refusals.{Test, OfLink, OfCheck, OfReady, OfJoined, OfPeer, in_ready_order, in_join_order}
+use Rattle.pair_model.specs.Link.{is_up}
+use Rattle.pair_model.specs.Pads.{links_pad}
+use Rattle.pair_model.specs.Refusals.{Test, OfLink, OfCheck, OfReady, OfJoined, OfPeer, in_ready_order, in_join_order}
 use Rattle.bridge_pair.specs.Bridge.{Bridge, book_of, pads_of, with_book}
 use Rattle.bridge_pair.specs.Writes.{pad_write}
 use Rattle.hand_shake.specs.Offers.{with_posted}

@@ -7,8 +7,8 @@ ghost use Rattle.plan_numbers.specs.Memories.{WindowsFit};
 ghost use Rattle.hand_shake.specs.Checks.{TouchesAnyRing, TouchesRings, after_check, came_up, check_answer as answer_by, unless_larger};
 ghost use Rattle.hand_shake.specs.Headers.{AreRingsReady};
 ghost use Rattle.hand_shake.specs.declared.CheckAnswer.TheVariants.{Up};
-ghost use Rattle.plan_model.specs.Pads.{first_larger, size_in};
-ghost use Rattle.plan_model.specs.Plans.{side_plan as side_plan_of};
+ghost use Rattle.pair_model.specs.Pads.{first_larger, size_in};
+ghost use Rattle.pair_model.specs.Plans.{side_plan as side_plan_of};
 ghost use Rattle.step_kinds.specs.Limits.{IsWindows};
 
 use crate::CheckAnswer;

@@ -8,13 +8,13 @@ ghost use Rattle.plan_numbers.specs.Memories.{memory_size, WindowsFit};
 ghost use Rattle.bridge_pair.specs.Bridge.{bytes_of, pages_of, with_bytes};
 ghost use Rattle.bridge_pair.specs.Ends.{bytes_after};
 ghost use Rattle.bridge_pair.specs.Pages.{OnlyPagesGrow};
-ghost use Rattle.byte_model.specs.Addresses.{own_header};
+ghost use Rattle.pair_model.specs.Addresses.{own_header};
 ghost use Rattle.hand_shake.specs.Headers.{AreHeadersOfReady, AreHeadersReady, AreSomeZeroed, IsHeaderReady, IsReceivingRing, IsZeroed, TouchesHeader, TouchesHeaderOf, ring_stores};
 ghost use Rattle.host_memory.specs.Memory.{ArePromised, AreZero, written};
-ghost use Rattle.byte_model.specs.FreshRings.{zeroed_headers};
-ghost use Rattle.plan_model.specs.DeclaredPlans.{IsPair};
-ghost use Rattle.plan_model.specs.Plans.{side_plan as side_plan_of};
-ghost use Rattle.plan_model.specs.Sizes.{header_bytes as bytes_of_header};
+ghost use Rattle.pair_model.specs.FreshRings.{zeroed_headers};
+ghost use Rattle.pair_model.specs.DeclaredPlans.{IsPair};
+ghost use Rattle.pair_model.specs.Plans.{side_plan as side_plan_of};
+ghost use Rattle.pair_model.specs.Sizes.{header_bytes as bytes_of_header};
 ghost use Rattle.ring_geometry.specs.Geometry.{entries_of, frame_size};
 
 use bridge_pair::Pair;

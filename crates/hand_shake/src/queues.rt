@@ -3,7 +3,7 @@
 ghost use Rattle.std.specs.Prelude.{◌≡◌, ◌<◌, IfOk, OnErr, OnOk};
 ghost use Rattle.hand_shake.specs.Queues.{after_join, after_ready, join_answer, ready_answer};
 ghost use Rattle.hand_shake.specs.declared.ReadyAnswer.TheVariants.{Ok as IsReady};
-ghost use Rattle.plan_model.specs.Plans.{side_plan};
+ghost use Rattle.pair_model.specs.Plans.{side_plan};
 ghost use Rattle.step_kinds.specs.Bits.{has_bit as is_among, with_bit as bits_with};
 
 use crate::offers::post_pad;

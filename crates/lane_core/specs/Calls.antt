@@ -9,7 +9,7 @@ pub use Rattle.lane_model.specs.Tests.{is_idle, is_copying, is_copied, is_cleare
 use Rattle.lane_model.specs.Steps.{after_begin, after_post, after_landing, after_look, more_to_copy, after_copy, after_clear, after_ack, after_index}
 use Rattle.lane_model.specs.declared.Write.{Write}
 use Rattle.lane_model.specs.declared.Write.TheVariants.{Data, Flag, Bell}
-use Rattle.plan_model.specs.Labels.{label_of}
+use Rattle.pair_model.specs.Labels.{label_of}
 use Rattle.step_kinds.specs.declared.lanes.Begun.{Begun}
 use Rattle.step_kinds.specs.declared.lanes.Begun.TheVariants.{Ok as Began, TooLong, Busy, NoRoom}
 use Rattle.lane_core.specs.declared.answers.LaneLand.{LaneLand}

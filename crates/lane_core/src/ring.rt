@@ -4,7 +4,7 @@ ghost use Rattle.std.specs.Prelude.{◌≡◌, ◌+◌, ◌-◌, ◌*◌, ◌%�
 ghost use Rattle.lane_model.specs.Lane.{GoesDown, chunk_of, chunk_size};
 ghost use Rattle.lane_model.specs.declared.Write.TheVariants.{Data};
 ghost use Rattle.lane_model.specs.Ring.{free_entries};
-ghost use Rattle.plan_model.specs.Labels.{label_of};
+ghost use Rattle.pair_model.specs.Labels.{label_of};
 ghost use Rattle.lane_core.specs.Calls.{number_of};
 ghost use Rattle.lane_core.specs.Fresh.{zeroed_slot};
 ghost use Rattle.lane_core.specs.Parts.{entry_in, entry_seen, place_seen, CanStore, IsKnown, ring_after, with_flags_at};

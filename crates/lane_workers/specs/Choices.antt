@@ -1,7 +1,7 @@
 -- Which moves a pass of the mover makes: the choices of a generator's words, and what they lead to.
 use Rattle.std.specs.Prelude.{◌≡◌, ℕ, ◌+◌, ◌-◌, ◌*◌, ◌/◌, ◌^◌, min, nat_lt, if◌then◌else◌}
 use Rattle.rand_xoshiro.specs.SplitMix64.{mix_u64}
-use Rattle.table_rule.specs.declared.parts.MovePart.{MovePart}
+use Rattle.table_lane.specs.declared.parts.MovePart.{MovePart}
 use Rattle.table_lane.specs.declared.mover.MoveAnswer.{MoveAnswer}
 use Rattle.table_lane.specs.declared.mover.MoveAnswer.TheVariants.{Took, Header, Flag, Idle}
 use Rattle.table_lane.specs.MoveChoice.{Moves}

@@ -1,6 +1,6 @@
 //! The pass of the worker that cuts.
 ghost use Rattle.std.specs.Prelude.{◌≡◌};
-ghost use Rattle.table_rule.specs.Knowledge.{link_cut};
+ghost use Rattle.table_lane.specs.Knowledge.{link_cut};
 
 use io_edges::Gate;
 use table_lane::CutEnd;

@@ -1,6 +1,6 @@
 //! The passes of the worker that receives.
 ghost use Rattle.std.specs.Prelude.{◌≡◌, ◌+◌, ◌≤◌, ◌<◌, ◌^◌, ◌++◌, length, take, drop};
-ghost use Rattle.table_rule.specs.LaneNames.{Idle};
+ghost use Rattle.table_lane.specs.LaneNames.{Idle};
 ghost use Rattle.lane_workers.specs.Passes.{LetsTurns};
 
 use crate::idling::{Idling, Turn};

@@ -1,6 +1,6 @@
 //! The passes of the worker that sends.
 ghost use Rattle.std.specs.Prelude.{◌≡◌, ◌≢◌, ◌+◌, ◌≤◌, ◌<◌, ◌^◌, ◌++◌, [], length};
-ghost use Rattle.table_rule.specs.ShownLane.{most_lane_frames};
+ghost use Rattle.table_lane.specs.ShownLane.{most_lane_frames};
 ghost use Rattle.lane_workers.specs.Passes.{HaveBytes, LetsTurns};
 
 use crate::idling::{Idling, Turn};

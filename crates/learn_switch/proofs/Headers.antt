@@ -2,8 +2,8 @@
 use Rattle.std.proofs.Common.{◌≡◌, ℕ, ◌≤◌, ◌/◌, ◌%◌, List, ◌∷◌, ◌++◌, length, take, drop, sym, ap, subst, ◌∙◌, arith}
 use Rattle.std.proofs.lemmas.List.{drop-append-le, length-append, take-append-le}
 use Rattle.std.proofs.Math.Seq.{drop-append_seam, take-append_seam}
-use Rattle.plan_model.specs.Ethernet.{ethernet_frame}
-use Rattle.switch_model.specs.Fdb.{destination, source}
+use Rattle.pair_model.specs.Ethernet.{ethernet_frame}
+use Rattle.pair_model.specs.Fdb.{destination, source}
 
 fits : (dst src : List ℕ) → length dst ≡ 6 → 6 ≤ length (dst ++ src)
 fits dst src h = omega (arith, length-append dst src, h)

@@ -1,9 +1,9 @@
 -- No frame without an Ethernet header waits.
 use Rattle.std.proofs.Common.{◌≡◌, ℕ, zero, suc, ◌<◌, ◌≤◌, Option, Some, None, List, [], ◌∷◌, ◌++◌, map, drop, length, IfSome, get_or, replicate, set, slice_get}
 use Rattle.std.specs.List.{AllByRecursion}
-use Rattle.switch_model.specs.Switch.{flooded, forwarded, joined, list_of, without_first}
-use Rattle.switch_model.specs.declared.RelayAnswer.{RelayAnswer}
-use Rattle.switch_model.specs.declared.RelayAnswer.TheVariants.{Nothing, Short, Filtered, To, Flood}
+use Rattle.pair_model.specs.Switch.{flooded, forwarded, joined, list_of, without_first}
+use Rattle.pair_model.specs.declared.RelayAnswer.{RelayAnswer}
+use Rattle.pair_model.specs.declared.RelayAnswer.TheVariants.{Nothing, Short, Filtered, To, Flood}
 use Rattle.learn_switch.specs.Frames.{HasHeader, AllHaveHeaders}
 
 -- the frames of one list

@@ -3,7 +3,7 @@ use Rattle.std.proofs.Common.{◌≡◌, ◌∙◌, Bool, true, false, ◌&&◌,
 use Rattle.std.specs.Str.{bytes_eq}
 use Rattle.std.proofs.lemmas.Bool.Decides.{Decides-eqb}
 use Rattle.std.proofs.lemmas.Slice.Eq.{bytes_eq-Decides}
-use Rattle.switch_model.specs.declared.Station.{Station}
+use Rattle.pair_model.specs.declared.Station.{Station}
 
 -- two tests hold where both of them together do
 both_true : (one other : Bool) → (one && other) ≡ true → (one ≡ true) × (other ≡ true)

@@ -1,11 +1,11 @@
 -- A switch of frames that are their bytes.
 use Rattle.std.specs.Prelude.{◌≡◌, ℕ, ◌<◌, ◌≤◌, Bool, true, false, List, length}
 use Rattle.std.specs.List.{AllByRecursion}
-use Rattle.switch_model.specs.Fdb.{AreBelow}
-use Rattle.switch_model.specs.declared.Station.{Station}
-use Rattle.switch_model.specs.Switch.{Switch, after_relay, header_bytes, relay_answer}
-use Rattle.switch_model.specs.declared.RelayAnswer.{RelayAnswer}
-use Rattle.switch_model.specs.declared.RelayAnswer.TheVariants.{Flood, To}
+use Rattle.pair_model.specs.Fdb.{AreBelow}
+use Rattle.pair_model.specs.declared.Station.{Station}
+use Rattle.pair_model.specs.Switch.{Switch, after_relay, header_bytes, relay_answer}
+use Rattle.pair_model.specs.declared.RelayAnswer.{RelayAnswer}
+use Rattle.pair_model.specs.declared.RelayAnswer.TheVariants.{Flood, To}
 
 abbrev pub Bytes : Type 0
 Bytes = Switch (List ℕ)

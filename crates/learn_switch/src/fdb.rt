@@ -1,11 +1,11 @@
 //! The forwarding database of a switch.
 
 ghost use Rattle.std.specs.Prelude.{◌≡◌, ◌↔◌, ◌<◌, [], length, IfOk, IfSome, IsTrue};
-ghost use Rattle.switch_model.specs.Fdb.{is_multicast, learned_source, lookup, place_of};
+ghost use Rattle.pair_model.specs.Fdb.{is_multicast, learned_source, lookup, place_of};
 
+use pair_model::Station;
 use std::alloc::{AllocError, Global};
 use std::marker::Model;
-use switch_model::Station;
 
 /// How many stations are known at most.
 const MOST_STATIONS: usize = 256;
@@ -102,7 +102,7 @@ impl Fdb {
 impl Model for Fdb {
     ghost use Rattle.std.specs.Prelude.{List, ◌≤◌};
     ghost use Rattle.std.specs.Vec.{vec_capacity, vec_len};
-    ghost use Rattle.switch_model.specs.declared.Station.{Station};
+    ghost use Rattle.pair_model.specs.declared.Station.{Station};
 
     ghost Value = { List Station };
 

@@ -1,7 +1,7 @@
 //! Frames in the order in which they came.
 
 ghost use Rattle.std.specs.Prelude.{◌≡◌, ◌↔◌, ◌++◌, ◌∷◌, [], drop, map, replicate, slice_get, IfOk, IsTrue, OnErr, OnOk, option_copied};
-ghost use Rattle.switch_model.specs.Switch.{flooded};
+ghost use Rattle.pair_model.specs.Switch.{flooded};
 
 use std::alloc::{AllocError, Global};
 use std::collections::VecDeque;

@@ -1,17 +1,17 @@
 //! A switch.
 
 ghost use Rattle.std.specs.Prelude.{◌≡◌, ◌↔◌, ◌<◌, ◌≤◌, [], length, IfErr, IfOk, IfSome, IsTrue, OnErr, OnOk, option_copied, true};
-ghost use Rattle.switch_model.specs.Switch.{arrived, first, forward_answer, forwarded, header_bytes, list_of, new_switch, sent};
-ghost use Rattle.switch_model.specs.Fdb.{AreBelow, destination, learned_source, lookup, source};
+ghost use Rattle.pair_model.specs.Switch.{arrived, first, forward_answer, forwarded, header_bytes, list_of, new_switch, sent};
+ghost use Rattle.pair_model.specs.Fdb.{AreBelow, destination, learned_source, lookup, source};
 ghost use Rattle.learn_switch.specs.Frames.{GoesBelow, HasHeader, AllHaveHeaders, bytes_after_relay, bytes_relay_answer, goes_on};
 
 use crate::fdb::{Fdb, is_multicast};
 use crate::frame_queue::{FrameQueue, copies, empty_queues, push_to_others};
 use net_dev::{Header, Short, decode};
+use pair_model::RelayAnswer;
 use std::alloc::{AllocError, Global};
 use std::marker::Model;
 use step_kinds::Frame;
-use switch_model::RelayAnswer;
 
 /// A learning switch with 2 to 16 ports, numbered from 0.
 ///

@@ -13,10 +13,10 @@ use Rattle.step_kinds.specs.declared.steps.Answer.{Answer}
 use Rattle.step_kinds.specs.declared.steps.Answer.TheVariants.{OkNumber, LinkDown, NotReady, Closed, TooLong, Busy, Stopped, Again}
 use Rattle.step_kinds.specs.declared.steps.Step.{Step}
 use Rattle.step_kinds.specs.declared.steps.Step.TheVariants.{Begin, QpDown, Xbegin}
-use Rattle.plan_model.specs.Plans.{dev_plan, pair_plan}
-use Rattle.plan_model.specs.Sizes.{Sizes, sizes_of}
-use Rattle.plan_model.specs.Ethernet.{ethernet_frame}
-use Rattle.byte_model.specs.Headers.{Bytes}
+use Rattle.pair_model.specs.Plans.{dev_plan, pair_plan}
+use Rattle.pair_model.specs.Sizes.{Sizes, sizes_of}
+use Rattle.pair_model.specs.Ethernet.{ethernet_frame}
+use Rattle.pair_model.specs.Headers.{Bytes}
 use Rattle.ledger_laws.specs.Laws.{AgainWhereNoRoom, lane_begun_by, sender_refused, frame_refused, refused_earlier, is_again, entries_needed}
 use Rattle.ledger_model.specs.Ledger.{LanePart, PairPart, lane_of, dev_of, link_up, free_of, head_in}
 use Rattle.ledger_model.specs.Log.{room_in, log_of, ledger_of, Memories}

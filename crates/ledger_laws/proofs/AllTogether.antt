@@ -7,8 +7,8 @@ use Rattle.step_kinds.specs.declared.plan.Plan.{Plan}
 use Rattle.step_kinds.specs.declared.steps.Answer.{Answer}
 use Rattle.step_kinds.specs.declared.steps.Step.{Step}
 use Rattle.step_kinds.specs.declared.steps.Step.TheVariants.{Check, Poke, Spad}
-use Rattle.plan_model.specs.DeclaredPlans.{IsDeclared, IsPermitted}
-use Rattle.plan_model.specs.Plans.{pair_plan}
+use Rattle.pair_model.specs.DeclaredPlans.{IsDeclared, IsPermitted}
+use Rattle.pair_model.specs.Plans.{pair_plan}
 use Rattle.ledger_model.specs.Ledger.{side_of}
 use Rattle.ledger_model.specs.Log.{ledger_of}
 use Rattle.ledger_laws.specs.Laws.{GoesOn, HasSidesInRange, IsOrdinaryOn, IsOrdinaryPair}

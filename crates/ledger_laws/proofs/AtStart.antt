@@ -6,13 +6,13 @@ use Rattle.step_kinds.specs.declared.names.Side.{Side}
 use Rattle.step_kinds.specs.declared.names.Side.TheVariants.{A, B}
 use Rattle.step_kinds.specs.declared.plan.PairPlan.{PairPlan}
 use Rattle.step_kinds.specs.declared.plan.SidePlan.{SidePlan}
-use Rattle.plan_model.specs.Both.{at_side, both_of}
+use Rattle.pair_model.specs.Both.{at_side, both_of}
 use Rattle.ledger_model.specs.Ledger.{SidePart, side_of, lane_of}
-use Rattle.plan_model.specs.Link.{is_up, is_down, is_closing}
+use Rattle.pair_model.specs.Link.{is_up, is_down, is_closing}
 use Rattle.ledger_model.specs.LinkSteps.{fresh_lane}
 use Rattle.ledger_model.specs.Next.{fresh_pair, agreed_side, idle_side}
-use Rattle.plan_model.specs.declared.LinkState.{LinkState}
-use Rattle.plan_model.specs.declared.LinkState.TheVariants.{Down, Up, Closing}
+use Rattle.pair_model.specs.declared.LinkState.{LinkState}
+use Rattle.pair_model.specs.declared.LinkState.TheVariants.{Down, Up, Closing}
 
 -- A link that is up isn't down.
 pub up-not_down : (state : LinkState) → is_up state ≡ true → is_down state ≡ false

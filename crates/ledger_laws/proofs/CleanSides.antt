@@ -8,9 +8,9 @@ use Rattle.step_kinds.specs.declared.names.LaneName.{LaneName}
 use Rattle.step_kinds.specs.declared.plan.Plan.{Plan}
 use Rattle.step_kinds.specs.declared.steps.Label.{Label}
 use Rattle.step_kinds.specs.declared.steps.Label.TheVariants.{Pad}
-use Rattle.plan_model.specs.Link.{is_down}
+use Rattle.pair_model.specs.Link.{is_down}
 use Rattle.ledger_model.specs.Log.{Answered}
-use Rattle.plan_model.specs.declared.LinkState.{LinkState}
+use Rattle.pair_model.specs.declared.LinkState.{LinkState}
 use Rattle.ledger_laws.proofs.AtStart.{up-not_down}
 use Rattle.ledger_laws.proofs.InFlight.{EmptyOf}
 use Rattle.step_kinds.specs.declared.names.Side.{Side}

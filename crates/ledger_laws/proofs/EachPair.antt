@@ -8,16 +8,16 @@ use Rattle.std.proofs.lemmas.List.{append-nil}
 use Rattle.step_kinds.specs.Subject.{subject_of}
 use Rattle.step_kinds.specs.declared.plan.Plan.{Plan}
 use Rattle.step_kinds.specs.declared.steps.Step.{Step}
-use Rattle.byte_model.specs.Headers.{Bytes}
+use Rattle.pair_model.specs.Headers.{Bytes}
 use Rattle.ledger_model.specs.Ledger.{LanePart, SidePart, PairPart, link_up, posts, posts_raw}
 use Rattle.ledger_model.specs.Reading.{Reading}
 use Rattle.ledger_model.specs.Sending.{posts_through}
-use Rattle.plan_model.specs.Both.{Both}
+use Rattle.pair_model.specs.Both.{Both}
 use Rattle.step_kinds.specs.declared.names.Side.{Side}
 use Rattle.step_kinds.specs.declared.steps.Label.{Label}
 use Rattle.ledger_model.specs.Log.{Answered, Memories, answered, log_from, ledger_from, log_of, ledger_of}
 use Rattle.ledger_model.specs.Next.{Ledger, fresh_pair, ledger_after, start}
-use Rattle.plan_model.specs.Plans.{pair_plan}
+use Rattle.pair_model.specs.Plans.{pair_plan}
 use Rattle.ledger_laws.proofs.AtStart.{fresh-lane}
 use Rattle.ledger_laws.proofs.LogGrowth.{made_by, left_by}
 use Rattle.ledger_laws.proofs.walk.Logs.{OwnTodos, todos_kept}

@@ -16,10 +16,10 @@ use Rattle.ledger_model.specs.LinkSteps.{fresh_lane}
 use Rattle.ledger_model.specs.Log.{Answered}
 use Rattle.ledger_model.specs.Pieces.{piece_of, pieces_of}
 use Rattle.ledger_model.specs.Receiving.{is_copying}
-use Rattle.plan_model.specs.Link.{is_down}
-use Rattle.plan_model.specs.Plans.{pair_plan}
-use Rattle.plan_model.specs.Sizes.{Sizes, pieces_in}
-use Rattle.plan_model.specs.declared.LinkState.{LinkState}
+use Rattle.pair_model.specs.Link.{is_down}
+use Rattle.pair_model.specs.Plans.{pair_plan}
+use Rattle.pair_model.specs.Sizes.{Sizes, pieces_in}
+use Rattle.pair_model.specs.declared.LinkState.{LinkState}
 use Rattle.ledger_laws.specs.States.{AreWithin, EntriesFitTheRing}
 use Rattle.ledger_laws.proofs.AgainWhereNoRoom.{room_runs}
 use Rattle.ledger_laws.proofs.AtStart.{up-not_down, fresh-lane}

@@ -1,5 +1,5 @@
 -- What crates above may cite of the proofs of this crate: laws of every log, one name for each. Beside them stand how a
--- log grows by a step, and what the walk over its steps says of them.
+-- log grows by a step, what the walk over its steps says of them, and what sites have of steps.
 pub use Rattle.ledger_laws.proofs.AgainWhereNoRoom.{again_where_no_room}
 pub use Rattle.ledger_laws.proofs.AllTogether.{answers_are_right, are_ordinary, has_sides, laws_hold}
 pub use Rattle.ledger_laws.proofs.CopiedInParts.{copied_in_parts}
@@ -38,3 +38,13 @@ pub use Rattle.ledger_laws.proofs.walk.Logs.{OwnTodos}
 pub use Rattle.ledger_laws.proofs.walk.Sight.{same_side-refl}
 pub use Rattle.ledger_laws.proofs.RingOfLane.{phase_idle, phase_copying}
 pub use Rattle.ledger_laws.proofs.FollowersFew.{IsOfFrame, entries_are_of_frames}
+pub use Rattle.ledger_laws.proofs.BytesSayTheLedger.{bytes_say_the_ledger}
+pub use Rattle.ledger_laws.proofs.MemoriesApart.{memories_keep_pairs_apart, stored_pairs_are_separate}
+pub use Rattle.ledger_laws.proofs.RingsStand.{rings_stand_in_memory}
+pub use Rattle.ledger_laws.proofs.Sites.{same_outcome, site_of-elsewhere, site_of-here, site_outcome, sites_are_the_ledger, steps_of_log}
+pub use Rattle.ledger_laws.proofs.Bridges.{bridges_have_a_log, log_grows_by_items}
+pub use Rattle.ledger_laws.proofs.ErasedOrigins.{origins_change_nothing}
+pub use Rattle.ledger_laws.proofs.Headline.{frames_come_in_order, frames_come_once, items_again_where_no_room, items_link_down_where_not_up, paths_keep_order}
+pub use Rattle.ledger_laws.proofs.Readings.{log_reads_as_bridges}
+pub use Rattle.ledger_laws.proofs.SeparatePairs.{pairs_without_ports_are_separate}
+pub use Rattle.ledger_laws.proofs.WaitingHeaders.{headers_stay, waiting_have_headers}

@@ -17,17 +17,17 @@ use Rattle.lane_model.specs.declared.Phase.TheVariants.{Idle, Copying, Copied, C
 use Rattle.lane_model.specs.declared.Write.{Write}
 use Rattle.lane_model.specs.declared.Write.TheVariants.{Data, Flag as EntryFlag, Bell as QueueBell}
 use Rattle.ledger_model.specs.Labels.{label_of, labels_of, write_of}
-use Rattle.plan_model.specs.Link.{is_up, is_down}
+use Rattle.pair_model.specs.Link.{is_up, is_down}
 use Rattle.ledger_model.specs.Log.{Answered}
 use Rattle.ledger_model.specs.Receiving.{is_idle, is_copying, is_copied, is_cleared}
 use Rattle.order_rules.specs.Order.{strict}
-use Rattle.plan_model.specs.Orders.{kind_of, order_of}
+use Rattle.pair_model.specs.Orders.{kind_of, order_of}
 use Rattle.ledger_laws.proofs.AtStart.{down-not_up}
 use Rattle.ledger_laws.proofs.BitSets.{has-with_kept, has-with_same, stays_pending}
 use Rattle.ledger_laws.proofs.InFlight.{filter_map-last, filter_map-remove, lands_first, posted_unread, posted_up, EmptyOf}
 use Rattle.ledger_laws.proofs.Labels.{write_of-label, flag_strict, bell_strict, ReadsOneClass, writes_one_class}
 use Rattle.std.proofs.lemmas.Option.{none-some}
-use Rattle.plan_model.specs.Plans.{pair_plan}
+use Rattle.pair_model.specs.Plans.{pair_plan}
 use Rattle.step_kinds.specs.declared.names.Side.{Side}
 use Rattle.step_kinds.specs.declared.plan.PairPlan.{PairPlan}
 use Rattle.ledger_laws.proofs.Offers.{pad-write}

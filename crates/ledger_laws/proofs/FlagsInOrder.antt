@@ -23,9 +23,9 @@ use Rattle.ledger_model.specs.Log.{Answered, Memories, ledger_of}
 use Rattle.ledger_model.specs.Next.{fresh_pair}
 use Rattle.ledger_model.specs.Receiving.{is_copying}
 use Rattle.lane_model.specs.declared.Phase.{Phase}
-use Rattle.plan_model.specs.Link.{is_up}
-use Rattle.plan_model.specs.Orders.{order_of}
-use Rattle.plan_model.specs.Plans.{pair_plan}
+use Rattle.pair_model.specs.Link.{is_up}
+use Rattle.pair_model.specs.Orders.{order_of}
+use Rattle.pair_model.specs.Plans.{pair_plan}
 use Rattle.ledger_laws.proofs.AtStart.{down-not_up, fresh-flight, fresh-lane}
 use Rattle.ledger_laws.proofs.InFlight.{filter_map-last, filter_map-remove, lands_first, posted_unread, posted_up, posted_lost, EmptyOf, empty_kept}
 use Rattle.ledger_laws.proofs.Labels.{write_of-label, flag_strict, ReadsOneClass, writes_one_class}

@@ -17,10 +17,10 @@ use Rattle.step_kinds.specs.declared.steps.Label.{Label}
 use Rattle.step_kinds.specs.declared.steps.Label.TheVariants.{Flag, Down, Bell, Index, Pad, Raw}
 use Rattle.step_kinds.specs.declared.steps.Step.{Step}
 use Rattle.step_kinds.specs.declared.steps.Step.TheVariants.{Enable, Train, Break, DropDone, Clean, Offer, Check, Ready, Join, Begin, QpDown, Xbegin, Post, Land, Look, Copy, Clear, Ack, Wake, Irq, Mask, Unmask, Spad, Poke}
-use Rattle.plan_model.specs.Pads.{offers}
-use Rattle.plan_model.specs.Plans.{dev_plan, pair_plan, side_plan}
-use Rattle.plan_model.specs.Sizes.{sizes_of}
-use Rattle.byte_model.specs.Headers.{Bytes}
+use Rattle.pair_model.specs.Pads.{offers}
+use Rattle.pair_model.specs.Plans.{dev_plan, pair_plan, side_plan}
+use Rattle.pair_model.specs.Sizes.{sizes_of}
+use Rattle.pair_model.specs.Headers.{Bytes}
 use Rattle.ledger_model.specs.Ledger.{PairPart, SidePart, lane_of, lane_to, link_up, posts, posts_raw, side_of, with_lane, with_side_part}
 use Rattle.ledger_model.specs.Log.{Answered}
 use Rattle.ledger_model.specs.Next.{fresh_pair, read_next}

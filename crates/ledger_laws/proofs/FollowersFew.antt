@@ -11,8 +11,8 @@ use Rattle.lane_model.specs.Law.{entry_among}
 use Rattle.ledger_model.specs.Ledger.{LanePart, lane_of}
 use Rattle.ledger_model.specs.Log.{Answered, Memories, ledger_of}
 use Rattle.ledger_model.specs.Pieces.{piece_of}
-use Rattle.plan_model.specs.Plans.{pair_plan}
-use Rattle.plan_model.specs.Sizes.{Sizes, pieces_in}
+use Rattle.pair_model.specs.Plans.{pair_plan}
+use Rattle.pair_model.specs.Sizes.{Sizes, pieces_in}
 use Rattle.ledger_laws.specs.Laws.{IsOrdinaryPair}
 use Rattle.ledger_laws.proofs.AtStart.{fresh-lane}
 use Rattle.ledger_laws.proofs.EntriesFit.{all_push}

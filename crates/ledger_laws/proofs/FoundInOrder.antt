@@ -24,17 +24,17 @@ use Rattle.lane_model.specs.declared.Phase.TheVariants.{Idle, Copying, Copied, C
 use Rattle.lane_model.specs.declared.Write.TheVariants.{Flag as EntryFlag}
 use Rattle.ledger_model.specs.Labels.{write_of}
 use Rattle.ledger_model.specs.Pieces.{pieces_of}
-use Rattle.plan_model.specs.Ethernet.{ethernet_frame}
-use Rattle.plan_model.specs.Sizes.{sizes_of}
+use Rattle.pair_model.specs.Ethernet.{ethernet_frame}
+use Rattle.pair_model.specs.Sizes.{sizes_of}
 use Rattle.ledger_model.specs.Ledger.{LanePart, PairPart, lane_of, entry_in, lane_to, posts, posts_raw, side_of, with_lane}
 use Rattle.ledger_model.specs.Log.{Answered, Memories, is_on, log_of, ledger_of, made_since, trains}
-use Rattle.byte_model.specs.Headers.{Bytes}
+use Rattle.pair_model.specs.Headers.{Bytes}
 use Rattle.order_rules.specs.Order.{may_land}
-use Rattle.plan_model.specs.Orders.{order_of}
-use Rattle.plan_model.specs.Plans.{dev_plan, pair_plan}
+use Rattle.pair_model.specs.Orders.{order_of}
+use Rattle.pair_model.specs.Plans.{dev_plan, pair_plan}
 use Rattle.step_kinds.specs.Bits.{has_bit}
-use Rattle.plan_model.specs.Link.{is_up}
-use Rattle.byte_model.specs.Headers.{NoEntry}
+use Rattle.pair_model.specs.Link.{is_up}
+use Rattle.pair_model.specs.Headers.{NoEntry}
 use Rattle.ledger_model.specs.Next.{Ledger, outcome_in, read_next}
 use Rattle.ledger_model.specs.Outcome.{Outcome, decided, refuse_if}
 use Rattle.ledger_model.specs.Reading.{Reading, by_bytes, by_ledger, found_entry, found_in_ledger, reading_of}

@@ -9,7 +9,7 @@ use Rattle.step_kinds.specs.declared.plan.Plan.{Plan}
 use Rattle.step_kinds.specs.declared.steps.Step.{Step}
 use Rattle.ledger_model.specs.Ledger.{LanePart, lane_to}
 use Rattle.ledger_model.specs.Log.{Answered, Memories, Numbered, delivers, delivered, first_session, log_of, ledger_of}
-use Rattle.plan_model.specs.Plans.{pair_plan}
+use Rattle.pair_model.specs.Plans.{pair_plan}
 use Rattle.ledger_laws.proofs.AtStart.{fresh-lane}
 use Rattle.ledger_laws.proofs.LogReaders.{session_at}
 use Rattle.ledger_laws.proofs.Tallies.{added, added-none, added-now, added-elsewhere, more_found, now_kept, fresh_now}

@@ -11,11 +11,11 @@ use Rattle.lane_model.specs.Lane.{Entry, Carries, GoesDown, bytes_of, chunk_of, 
 use Rattle.lane_model.specs.declared.Phase.{Phase}
 use Rattle.lane_model.specs.declared.Phase.TheVariants.{Idle, Copying, Copied, Cleared}
 use Rattle.ledger_model.specs.Ledger.{LanePart}
-use Rattle.plan_model.specs.Link.{is_up}
+use Rattle.pair_model.specs.Link.{is_up}
 use Rattle.ledger_model.specs.Log.{Answered, Numbered, accepts, delivers, accepted, delivered, first_session, log_of, ledger_of}
 use Rattle.ledger_model.specs.Next.{fresh_pair}
 use Rattle.ledger_model.specs.Receiving.{is_idle, is_copying, is_copied, is_cleared}
-use Rattle.plan_model.specs.Plans.{pair_plan}
+use Rattle.pair_model.specs.Plans.{pair_plan}
 use Rattle.ledger_laws.specs.Laws.{Begins as BeginsList, NumberedFrom, EveryLogIsInOrder, EveryFrameComesOnce}
 use Rattle.ledger_laws.proofs.AtStart.{fresh-lane, down-not_up}
 use Rattle.ledger_laws.proofs.BitSets.{no_bit}

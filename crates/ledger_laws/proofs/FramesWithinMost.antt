@@ -12,7 +12,7 @@ use Rattle.lane_model.specs.Lane.{Entry, Carries, GoesDown, bytes_of}
 use Rattle.ledger_model.specs.Ledger.{LanePart}
 use Rattle.ledger_model.specs.Log.{Answered, Numbered, ledger_of}
 use Rattle.ledger_model.specs.Next.{fresh_pair}
-use Rattle.plan_model.specs.Plans.{pair_plan}
+use Rattle.pair_model.specs.Plans.{pair_plan}
 use Rattle.ledger_laws.specs.States.{FreedWereBegun, ReceiverKnowsItsFrame}
 use Rattle.ledger_laws.proofs.AtStart.{fresh-lane}
 use Rattle.ledger_laws.proofs.EntriesFit.{EntriesKnown, entries_run, freed-begun}

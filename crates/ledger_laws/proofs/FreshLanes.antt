@@ -21,12 +21,12 @@ use Rattle.ledger_model.specs.LinkSteps.{fresh_lane}
 use Rattle.ledger_model.specs.Log.{Answered, ledger_of}
 use Rattle.ledger_model.specs.Next.{fresh_pair, agreed_side, idle_side}
 use Rattle.ledger_model.specs.Receiving.{is_copying, is_copied, is_cleared}
-use Rattle.plan_model.specs.Both.{at_side, both_of}
-use Rattle.plan_model.specs.Link.{is_down, fresh_link}
-use Rattle.plan_model.specs.Pads.{links_pad}
-use Rattle.plan_model.specs.Plans.{pair_plan}
-use Rattle.plan_model.specs.declared.LinkState.{LinkState}
-use Rattle.plan_model.specs.declared.LinkState.TheVariants.{Down}
+use Rattle.pair_model.specs.Both.{at_side, both_of}
+use Rattle.pair_model.specs.Link.{is_down, fresh_link}
+use Rattle.pair_model.specs.Pads.{links_pad}
+use Rattle.pair_model.specs.Plans.{pair_plan}
+use Rattle.pair_model.specs.declared.LinkState.{LinkState}
+use Rattle.pair_model.specs.declared.LinkState.TheVariants.{Down}
 use Rattle.ledger_laws.specs.Laws.{IsOrdinaryOn}
 use Rattle.ledger_laws.specs.States.{HasNotComeUp, NoEntryBeforeBothUp}
 use Rattle.ledger_laws.proofs.AtStart.{up-not_down, fresh-flight}

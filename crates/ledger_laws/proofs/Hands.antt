@@ -11,9 +11,9 @@ use Rattle.step_kinds.specs.declared.plan.Plan.{Plan}
 use Rattle.step_kinds.specs.declared.steps.Step.{Step}
 use Rattle.lane_model.specs.declared.Phase.{Phase}
 use Rattle.lane_model.specs.declared.Phase.TheVariants.{Idle, Copying, Copied, Cleared}
-use Rattle.plan_model.specs.Link.{is_down}
-use Rattle.plan_model.specs.Plans.{pair_plan}
-use Rattle.plan_model.specs.declared.LinkState.{LinkState}
+use Rattle.pair_model.specs.Link.{is_down}
+use Rattle.pair_model.specs.Plans.{pair_plan}
+use Rattle.pair_model.specs.declared.LinkState.{LinkState}
 use Rattle.ledger_model.specs.Ledger.{LanePart, lane_to, side_of}
 use Rattle.ledger_model.specs.Log.{Answered, Memories, ledger_of}
 use Rattle.ledger_model.specs.Receiving.{is_idle, is_copying, is_copied, is_cleared}

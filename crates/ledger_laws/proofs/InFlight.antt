@@ -13,11 +13,11 @@ use Rattle.step_kinds.specs.declared.plan.Plan.{Plan}
 use Rattle.step_kinds.specs.declared.steps.Label.{Label}
 use Rattle.step_kinds.specs.Bits.{with_bit}
 use Rattle.lane_model.specs.declared.Phase.TheVariants.{Idle}
-use Rattle.plan_model.specs.Link.{is_up, is_down}
+use Rattle.pair_model.specs.Link.{is_up, is_down}
 use Rattle.ledger_model.specs.Log.{Answered}
-use Rattle.plan_model.specs.declared.LinkState.{LinkState}
+use Rattle.pair_model.specs.declared.LinkState.{LinkState}
 use Rattle.order_rules.specs.Order.{lands_behind, passes, relaxed, strict}
-use Rattle.plan_model.specs.Orders.{kind_of, order_of}
+use Rattle.pair_model.specs.Orders.{kind_of, order_of}
 use Rattle.ledger_laws.proofs.Labels.{ReadsOneClass}
 use Rattle.step_kinds.specs.declared.names.Side.{Side}
 use Rattle.step_kinds.specs.declared.plan.PairPlan.{PairPlan}

@@ -13,9 +13,9 @@ use Rattle.step_kinds.specs.declared.plan.Plan.{Plan}
 use Rattle.step_kinds.specs.declared.plan.SidePlan.{SidePlan}
 use Rattle.ledger_model.specs.Log.{Answered, log_of, ledger_of}
 use Rattle.ledger_model.specs.Ledger.{side_of}
-use Rattle.plan_model.specs.DeclaredPlans.{IsPair, Agree, IsSide}
-use Rattle.plan_model.specs.Link.{is_up}
-use Rattle.plan_model.specs.Plans.{pair_plan, side_plan}
+use Rattle.pair_model.specs.DeclaredPlans.{IsPair, Agree, IsSide}
+use Rattle.pair_model.specs.Link.{is_up}
+use Rattle.pair_model.specs.Plans.{pair_plan, side_plan}
 use Rattle.ledger_laws.specs.Laws.{HasNumbersInRange, IsOrdinaryOn, VersionsAgree}
 use Rattle.ledger_laws.specs.States.{AgreesWith, UpSideAgrees, JoinedMeansAgreement}
 use Rattle.ledger_laws.proofs.AtStart.{up-not_down}

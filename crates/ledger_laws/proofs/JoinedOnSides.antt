@@ -20,7 +20,7 @@ use Rattle.step_kinds.specs.declared.steps.Step.TheVariants.{Enable, Train, Brea
 use Rattle.lane_model.specs.Lane.{Entry}
 use Rattle.lane_model.specs.declared.Phase.{Phase}
 use Rattle.lane_model.specs.declared.Phase.TheVariants.{Copying, Copied, Cleared}
-use Rattle.byte_model.specs.Headers.{Bytes, Found, ALinkDownEntry, AnEntry}
+use Rattle.pair_model.specs.Headers.{Bytes, Found, ALinkDownEntry, AnEntry}
 use Rattle.ledger_model.specs.Ledger.{LanePart, SidePart, DevPart, PairPart, side_of, lane_of, lane_to, dev_of, link_up, with_side_part, with_lane, with_dev, posts, posts_raw, updated}
 use Rattle.ledger_model.specs.LinkSteps.{emptied_side, cleaned_side, started_dev}
 use Rattle.ledger_model.specs.Log.{Answered}
@@ -29,9 +29,9 @@ use Rattle.ledger_model.specs.Outcome.{Outcome, decided}
 use Rattle.ledger_model.specs.Reading.{Reading, reading_of}
 use Rattle.ledger_model.specs.Receiving.{is_idle, is_copying, is_copied, is_cleared, lands_on, taken_out, land_found, look_at}
 use Rattle.ledger_model.specs.Sending.{is_empty_list, is_busy, next_begun, posts_through, post_first}
-use Rattle.plan_model.specs.Both.{at_side, with_side}
-use Rattle.plan_model.specs.Plans.{dev_plan, pair_plan}
-use Rattle.plan_model.specs.Sizes.{sizes_of}
+use Rattle.pair_model.specs.Both.{at_side, with_side}
+use Rattle.pair_model.specs.Plans.{dev_plan, pair_plan}
+use Rattle.pair_model.specs.Sizes.{sizes_of}
 use Rattle.ledger_laws.specs.States.{JoinedSideIsUp, StoppedDeviceIsJoined, BusySenderIsJoined, BusyReceiverIsJoined}
 use Rattle.ledger_laws.proofs.AtStart.{fresh-lane}
 use Rattle.ledger_laws.proofs.BitSets.{no_bit, has-with_kept}

@@ -13,11 +13,11 @@ use Rattle.step_kinds.specs.declared.steps.Label.{Label}
 use Rattle.step_kinds.specs.declared.steps.Label.TheVariants.{Bell, Index, Pad}
 use Rattle.lane_model.specs.declared.Write.{Write}
 use Rattle.ledger_model.specs.Labels.{write_of}
-use Rattle.plan_model.specs.Link.{is_down, is_closing}
+use Rattle.pair_model.specs.Link.{is_down, is_closing}
 use Rattle.ledger_model.specs.Log.{Answered}
-use Rattle.plan_model.specs.declared.LinkState.{LinkState}
-use Rattle.plan_model.specs.declared.LinkState.TheVariants.{Down, Up, Closing}
-use Rattle.plan_model.specs.Pads.{links_pad}
+use Rattle.pair_model.specs.declared.LinkState.{LinkState}
+use Rattle.pair_model.specs.declared.LinkState.TheVariants.{Down, Up, Closing}
+use Rattle.pair_model.specs.Pads.{links_pad}
 use Rattle.ledger_laws.specs.Laws.{IsOrdinaryOn}
 use Rattle.ledger_laws.proofs.AtStart.{up-not_down}
 use Rattle.ledger_laws.proofs.BitSets.{no_bit}

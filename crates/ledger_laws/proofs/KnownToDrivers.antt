@@ -23,11 +23,11 @@ use Rattle.lane_laws.proofs.Facade.{length-count_from}
 use Rattle.lane_model.specs.Lane.{Entry, GoesDown, bytes_of, chunks_in, count_from, data_of, writes_of}
 use Rattle.lane_model.specs.declared.Field.TheVariants.{Chunk, Length, Version}
 use Rattle.lane_model.specs.declared.Write.TheVariants.{Data, Flag as EntryFlag, Bell as QueueBell}
-use Rattle.plan_model.specs.Both.{at_side, both_of}
-use Rattle.plan_model.specs.Ethernet.{ethernet_frame}
-use Rattle.plan_model.specs.Plans.{dev_plan, pair_plan, side_plan}
-use Rattle.plan_model.specs.Sizes.{sizes_of}
-use Rattle.byte_model.specs.Headers.{Bytes}
+use Rattle.pair_model.specs.Both.{at_side, both_of}
+use Rattle.pair_model.specs.Ethernet.{ethernet_frame}
+use Rattle.pair_model.specs.Plans.{dev_plan, pair_plan, side_plan}
+use Rattle.pair_model.specs.Sizes.{sizes_of}
+use Rattle.pair_model.specs.Headers.{Bytes}
 use Rattle.ledger_model.specs.Labels.{label_of, labels_of}
 use Rattle.ledger_model.specs.Ledger.{LanePart, SidePart, PairPart, side_of, lane_of, lane_to, link_up, posts, posts_raw, with_lane, with_side_part}
 use Rattle.ledger_model.specs.Log.{Answered, is_on, log_of, ledger_of, Memories}

@@ -12,7 +12,7 @@ use Rattle.lane_model.specs.declared.Write.{Write}
 use Rattle.lane_model.specs.declared.Write.TheVariants.{Data, Flag as EntryFlag, Bell as QueueBell}
 use Rattle.ledger_model.specs.Labels.{label_of, labels_of, write_of, index_of, writes_among}
 use Rattle.order_rules.specs.Order.{strict}
-use Rattle.plan_model.specs.Orders.{classes_of, kind_of, order_of}
+use Rattle.pair_model.specs.Orders.{classes_of, kind_of, order_of}
 use Rattle.step_kinds.specs.declared.names.Side.{Side}
 use Rattle.step_kinds.specs.declared.plan.PairPlan.{PairPlan}
 

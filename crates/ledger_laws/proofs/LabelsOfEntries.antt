@@ -21,9 +21,9 @@ use Rattle.ledger_model.specs.Labels.{label_of, labels_of, write_of, index_of}
 use Rattle.ledger_model.specs.Ledger.{LanePart, PairPart, side_of, lane_of}
 use Rattle.ledger_model.specs.Log.{Answered, ledger_of}
 use Rattle.ledger_model.specs.Next.{fresh_pair}
-use Rattle.plan_model.specs.Link.{is_up}
-use Rattle.plan_model.specs.Plans.{pair_plan}
-use Rattle.plan_model.specs.declared.LinkState.{LinkState}
+use Rattle.pair_model.specs.Link.{is_up}
+use Rattle.pair_model.specs.Plans.{pair_plan}
+use Rattle.pair_model.specs.declared.LinkState.{LinkState}
 use Rattle.ledger_laws.specs.States.{IsOfEntry, IsOfLane, IsOnQueue, LabelsAreOfEntries}
 use Rattle.ledger_laws.proofs.AtStart.{fresh-lane, fresh-flight}
 use Rattle.ledger_laws.proofs.EntriesFit.{all_push}

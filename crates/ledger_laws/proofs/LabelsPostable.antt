@@ -16,7 +16,7 @@ use Rattle.step_kinds.specs.declared.steps.Label.{Label}
 use Rattle.step_kinds.specs.declared.steps.Label.TheVariants.{Chunk, Len, Ver, Flag, Down, Bell, Index, Pad, Raw}
 use Rattle.step_kinds.specs.declared.steps.Step.{Step}
 use Rattle.step_kinds.specs.declared.steps.Step.TheVariants.{Enable, Train, Break, DropDone, Clean, Offer, Check, Ready, Join, Begin, QpDown, Xbegin, Post, Land, Look, Copy, Clear, Ack, Wake, Irq, Mask, Unmask, Spad, Poke}
-use Rattle.byte_model.specs.Headers.{Bytes, Found, ALinkDownEntry, AnEntry}
+use Rattle.pair_model.specs.Headers.{Bytes, Found, ALinkDownEntry, AnEntry}
 use Rattle.ledger_model.specs.Labels.{labels_of}
 use Rattle.ledger_model.specs.Ledger.{LanePart, SidePart, PairPart, side_of, lane_of, lane_to, link_up, with_side_part, with_lane, posts, posts_raw}
 use Rattle.ledger_model.specs.LinkSteps.{emptied_side, cleaned_side}
@@ -25,9 +25,9 @@ use Rattle.ledger_model.specs.Outcome.{Outcome, decided}
 use Rattle.ledger_model.specs.Reading.{Reading, reading_of}
 use Rattle.ledger_model.specs.Receiving.{lands_on, taken_out, land_found, look_at}
 use Rattle.ledger_model.specs.Sending.{with_next, posts_through}
-use Rattle.plan_model.specs.Both.{at_side}
-use Rattle.plan_model.specs.DeclaredPlans.{IsPair, IsPermitted, IsPoke}
-use Rattle.plan_model.specs.Plans.{pair_plan, side_plan}
+use Rattle.pair_model.specs.Both.{at_side}
+use Rattle.pair_model.specs.DeclaredPlans.{IsPair, IsPermitted, IsPoke}
+use Rattle.pair_model.specs.Plans.{pair_plan, side_plan}
 use Rattle.ledger_laws.specs.States.{IsPostable, LabelsArePostable}
 use Rattle.ledger_laws.proofs.AtStart.{fresh-flight}
 use Rattle.ledger_laws.proofs.EntriesFit.{all_push}

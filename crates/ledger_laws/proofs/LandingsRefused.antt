@@ -10,8 +10,8 @@ use Rattle.step_kinds.specs.declared.steps.Label.{Label}
 use Rattle.step_kinds.specs.declared.steps.Step.{Step}
 use Rattle.step_kinds.specs.declared.steps.Step.TheVariants.{Land}
 use Rattle.order_rules.specs.Order.{may_land}
-use Rattle.plan_model.specs.Orders.{order_of}
-use Rattle.plan_model.specs.Plans.{pair_plan}
+use Rattle.pair_model.specs.Orders.{order_of}
+use Rattle.pair_model.specs.Plans.{pair_plan}
 use Rattle.ledger_model.specs.Ledger.{PairPart, side_of}
 use Rattle.ledger_model.specs.Log.{Memories, ledger_of}
 use Rattle.ledger_model.specs.Outcome.{decided, refuse_if}

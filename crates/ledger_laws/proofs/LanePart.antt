@@ -11,7 +11,7 @@ use Rattle.step_kinds.specs.declared.steps.Label.TheVariants.{Chunk, Len, Ver, F
 use Rattle.lane_model.specs.declared.Write.{Write}
 use Rattle.ledger_model.specs.Labels.{write_of, index_of}
 use Rattle.order_rules.specs.Order.{Order, lands_behind, passes, relaxed, strict}
-use Rattle.plan_model.specs.Orders.{kind_of, order_of}
+use Rattle.pair_model.specs.Orders.{kind_of, order_of}
 use Rattle.ledger_laws.specs.Landing.{kind_of_write, by_kind, LandsInPart, LanePartLands}
 use Rattle.ledger_laws.proofs.InFlight.{get-map}
 use Rattle.ledger_laws.proofs.Labels.{ReadsOneClass, writes_one_class, indexes_one_class}

@@ -27,9 +27,9 @@ use Rattle.ledger_model.specs.Ledger.{LanePart}
 use Rattle.ledger_model.specs.Log.{Answered}
 use Rattle.ledger_model.specs.Receiving.{is_copying, is_cleared}
 use Rattle.ledger_model.specs.Rings.{RingPart, lane_shown}
-use Rattle.plan_model.specs.Link.{is_up}
-use Rattle.plan_model.specs.Pads.{links_pad}
-use Rattle.plan_model.specs.Sizes.{Sizes}
+use Rattle.pair_model.specs.Link.{is_up}
+use Rattle.pair_model.specs.Pads.{links_pad}
+use Rattle.pair_model.specs.Sizes.{Sizes}
 use Rattle.ledger_laws.specs.LaneChanges.{LaneChange, Unchanged, change_by_write}
 use Rattle.lane_model.specs.LaneSteps.{LaneStep, Begin, Post, Land, Look, Copy, Clear, Acknowledge, GiveBack, Cut, Drop, Leads}
 use Rattle.ledger_laws.specs.LaneSteps.{AreStepsFor, MovesByLaneSteps}

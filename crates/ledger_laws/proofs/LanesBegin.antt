@@ -19,8 +19,8 @@ use Rattle.ledger_model.specs.LinkSteps.{fresh_lane}
 use Rattle.ledger_model.specs.Log.{Answered, answered, log_of, ledger_of}
 use Rattle.ledger_model.specs.Next.{Ledger, ledger_after}
 use Rattle.ledger_model.specs.Rings.{RingPart, lane_shown, ring_of}
-use Rattle.plan_model.specs.Plans.{pair_plan}
-use Rattle.plan_model.specs.Sizes.{Sizes}
+use Rattle.pair_model.specs.Plans.{pair_plan}
+use Rattle.pair_model.specs.Sizes.{Sizes}
 use Rattle.ledger_laws.specs.Laws.{IsOrdinaryOn}
 use Rattle.ledger_laws.specs.LaneSteps.{AreBothUp, EachLaneBeginsFresh}
 use Rattle.ledger_laws.proofs.AtStart.{fresh-flight, fresh-lane, up-not_down}

@@ -9,9 +9,9 @@ use Rattle.step_kinds.specs.declared.plan.DevPlan.{DevPlan}
 use Rattle.step_kinds.specs.declared.plan.PairPlan.{PairPlan}
 use Rattle.step_kinds.specs.declared.steps.Step.{Step}
 use Rattle.step_kinds.specs.declared.steps.Step.TheVariants.{Enable, Train, Break, DropDone, Clean, Offer, Check, Ready, Join, Begin, QpDown, Xbegin, Post, Land, Look, Copy, Clear, Ack, Wake}
-use Rattle.plan_model.specs.Plans.{dev_plan, pair_plan}
-use Rattle.plan_model.specs.Sizes.{sizes_of}
-use Rattle.byte_model.specs.Headers.{Bytes}
+use Rattle.pair_model.specs.Plans.{dev_plan, pair_plan}
+use Rattle.pair_model.specs.Sizes.{sizes_of}
+use Rattle.pair_model.specs.Headers.{Bytes}
 use Rattle.ledger_laws.specs.Laws.{is_link_down, needs_link, LinkDownWhereNotUp}
 use Rattle.ledger_model.specs.Ledger.{PairPart, link_up}
 use Rattle.ledger_model.specs.Log.{Memories, up_at, trains, breaks, log_of, ledger_of}
@@ -19,7 +19,7 @@ use Rattle.ledger_model.specs.Next.{pair_next, read_next, fresh_pair}
 use Rattle.ledger_model.specs.Reading.{Reading, reading_of}
 use Rattle.ledger_laws.proofs.Outcomes.{passed}
 use Rattle.ledger_laws.proofs.walk.Cases.{enable_cases, train_cases, break_cases, drop_cases, clean_cases, offer_cases, check_cases, ready_cases, join_cases, begin_cases, qpdown_cases, xbegin_cases, post_cases, land_cases, look_cases, copy_cases, clear_cases, ack_cases, wake_cases}
-use Rattle.plan_model.specs.Link.{is_up}
+use Rattle.pair_model.specs.Link.{is_up}
 use Rattle.ledger_model.specs.Log.{Answered}
 use Rattle.step_kinds.specs.declared.names.LaneName.{LaneName}
 use Rattle.step_kinds.specs.declared.names.Side.TheVariants.{A}

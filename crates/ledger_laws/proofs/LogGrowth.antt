@@ -4,8 +4,8 @@ use Rattle.std.proofs.lemmas.List.{append-nil, append_cancel_left}
 use Rattle.step_kinds.specs.declared.plan.Plan.{Plan}
 use Rattle.step_kinds.specs.declared.steps.Answer.{Answer}
 use Rattle.step_kinds.specs.declared.steps.Step.{Step}
-use Rattle.plan_model.specs.Plans.{pair_plan}
-use Rattle.byte_model.specs.Headers.{Bytes}
+use Rattle.pair_model.specs.Plans.{pair_plan}
+use Rattle.pair_model.specs.Headers.{Bytes}
 use Rattle.ledger_laws.specs.Laws.{GoesOn}
 use Rattle.ledger_model.specs.Ledger.{PairPart}
 use Rattle.ledger_model.specs.Log.{Answered, Memories, answered, log_from, ledger_from, log_of, ledger_of}

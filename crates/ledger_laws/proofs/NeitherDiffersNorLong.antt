@@ -12,15 +12,15 @@ use Rattle.step_kinds.specs.declared.steps.Answer.TheVariants.{NotReady, Closed,
 use Rattle.step_kinds.specs.declared.steps.Step.{Step}
 use Rattle.step_kinds.specs.declared.steps.Step.TheVariants.{Enable, Train, Break, DropDone, Clean, Offer, Check, Ready, Join, Begin, QpDown, Xbegin, Post, Land, Look, Copy, Clear, Ack, Wake}
 use Rattle.lane_model.specs.Lane.{Entry, Carries, GoesDown}
-use Rattle.byte_model.specs.Headers.{Bytes, NoEntry}
+use Rattle.pair_model.specs.Headers.{Bytes, NoEntry}
 use Rattle.ledger_model.specs.Ledger.{PairPart, side_of, lane_to, entry_in}
 use Rattle.ledger_model.specs.Log.{log_of, ledger_of}
 use Rattle.ledger_model.specs.Next.{read_next}
 use Rattle.ledger_model.specs.Outcome.{Outcome}
 use Rattle.ledger_model.specs.Reading.{Reading, by_bytes, by_ledger, found_entry, found_in_ledger}
 use Rattle.ledger_model.specs.Receiving.{is_idle, look_at, look_refusal}
-use Rattle.plan_model.specs.Plans.{dev_plan, pair_plan}
-use Rattle.plan_model.specs.Sizes.{sizes_of}
+use Rattle.pair_model.specs.Plans.{dev_plan, pair_plan}
+use Rattle.pair_model.specs.Sizes.{sizes_of}
 use Rattle.ledger_laws.specs.Laws.{is_unlike, NoOrdinaryVerDiffersOrLong}
 use Rattle.ledger_laws.proofs.LogGrowth.{answer_of}
 use Rattle.ledger_laws.proofs.Outcomes.{Nothing, each_if, each_decided}

@@ -14,7 +14,7 @@ use Rattle.step_kinds.specs.declared.steps.Label.{Label}
 use Rattle.step_kinds.specs.declared.steps.Label.TheVariants.{Pad, Raw}
 use Rattle.step_kinds.specs.declared.steps.Step.{Step}
 use Rattle.step_kinds.specs.declared.steps.Step.TheVariants.{Enable, Train, Break, DropDone, Clean, Offer, Check, Ready, Join, Begin, QpDown, Xbegin, Post, Land, Look, Copy, Clear, Ack, Wake, Irq, Mask, Unmask, Spad, Poke}
-use Rattle.byte_model.specs.Headers.{Bytes, Found, ALinkDownEntry, AnEntry}
+use Rattle.pair_model.specs.Headers.{Bytes, Found, ALinkDownEntry, AnEntry}
 use Rattle.ledger_model.specs.Ledger.{LanePart, SidePart, PairPart, side_of, lane_of, link_up, with_side_part, with_lane, posts, posts_raw}
 use Rattle.ledger_model.specs.Next.{fresh_pair, read_next}
 use Rattle.ledger_model.specs.Outcome.{Outcome, decided}
@@ -22,9 +22,9 @@ use Rattle.ledger_model.specs.Reading.{Reading, reading_of}
 use Rattle.ledger_model.specs.Receiving.{lands_on, poked_without, raws_before, taken_out, land_found, look_at}
 use Rattle.ledger_model.specs.Sending.{next_begun, posts_through, post_first}
 use Rattle.ledger_model.specs.LinkSteps.{cleaned_side}
-use Rattle.plan_model.specs.Both.{at_side, with_side}
-use Rattle.plan_model.specs.Link.{is_down, cleaned_link}
-use Rattle.plan_model.specs.Plans.{pair_plan}
+use Rattle.pair_model.specs.Both.{at_side, with_side}
+use Rattle.pair_model.specs.Link.{is_down, cleaned_link}
+use Rattle.pair_model.specs.Plans.{pair_plan}
 use Rattle.ledger_laws.specs.States.{NothingInFlightWhileDown}
 use Rattle.ledger_laws.proofs.AtStart.{down-not_up, each_fresh_side, fresh-flight}
 use Rattle.ledger_laws.proofs.InFlight.{EmptyOf, empty_kept}

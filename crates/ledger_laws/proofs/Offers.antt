@@ -8,9 +8,9 @@ use Rattle.step_kinds.specs.declared.plan.SidePlan.{SidePlan}
 use Rattle.step_kinds.specs.declared.steps.Label.{Label}
 use Rattle.step_kinds.specs.declared.steps.Label.TheVariants.{Pad}
 use Rattle.lane_model.specs.Lane.{count_from}
-use Rattle.plan_model.specs.Pads.{offers, word}
+use Rattle.pair_model.specs.Pads.{offers, word}
 use Rattle.ledger_model.specs.Labels.{write_of, index_of}
-use Rattle.plan_model.specs.Pads.{high_pad, low_pad, queues_pad, version_pad, windows_pad}
+use Rattle.pair_model.specs.Pads.{high_pad, low_pad, queues_pad, version_pad, windows_pad}
 use Rattle.ledger_laws.proofs.walk.Turn.{is_pad, is_link_pad}
 use Rattle.std.proofs.lemmas.List.{take-append-drop}
 

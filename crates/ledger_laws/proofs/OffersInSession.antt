@@ -12,12 +12,12 @@ use Rattle.step_kinds.specs.declared.plan.Plan.{Plan}
 use Rattle.step_kinds.specs.declared.plan.SidePlan.{SidePlan}
 use Rattle.step_kinds.specs.declared.steps.Label.{Label}
 use Rattle.step_kinds.specs.declared.steps.Label.TheVariants.{Pad}
-use Rattle.plan_model.specs.Pads.{offers}
-use Rattle.plan_model.specs.Link.{is_up}
+use Rattle.pair_model.specs.Pads.{offers}
+use Rattle.pair_model.specs.Link.{is_up}
 use Rattle.ledger_model.specs.Log.{Answered, trains, landed_pad}
-use Rattle.plan_model.specs.Plans.{pair_plan, side_plan}
+use Rattle.pair_model.specs.Plans.{pair_plan, side_plan}
 use Rattle.order_rules.specs.Order.{strict}
-use Rattle.plan_model.specs.Orders.{kind_of}
+use Rattle.pair_model.specs.Orders.{kind_of}
 use Rattle.step_kinds.specs.declared.names.Side.{Side}
 use Rattle.step_kinds.specs.declared.plan.PairPlan.{PairPlan}
 use Rattle.ledger_laws.proofs.Labels.{ReadsOneClass}

@@ -1,6 +1,6 @@
 -- What a step that may be refused comes to: its refusal in turn, or its answer and the new pair.
-use Rattle.plan_model.specs.Link.{refused_where}
-use Rattle.plan_model.specs.declared.LinkRefusal.{LinkRefusal}
+use Rattle.pair_model.specs.Link.{refused_where}
+use Rattle.pair_model.specs.declared.LinkRefusal.{LinkRefusal}
 use Rattle.std.proofs.Common.{◌≡◌, Bool, true, false, Option, Some, None, refl}
 use Rattle.step_kinds.specs.declared.steps.Answer.{Answer}
 use Rattle.ledger_model.specs.Ledger.{PairPart}

@@ -9,12 +9,12 @@ use Rattle.step_kinds.specs.declared.plan.Plan.{Plan}
 use Rattle.step_kinds.specs.declared.steps.Label.{Label}
 use Rattle.step_kinds.specs.declared.steps.Label.TheVariants.{Flag, Down, Bell, Index, Pad}
 use Rattle.step_kinds.specs.declared.steps.Step.{Step}
-use Rattle.byte_model.specs.Headers.{Bytes}
+use Rattle.pair_model.specs.Headers.{Bytes}
 use Rattle.ledger_model.specs.Ledger.{LanePart, PairPart, SidePart, side_of, with_lane, with_side_part}
 use Rattle.ledger_model.specs.Log.{Memories, ledger_of}
 use Rattle.ledger_model.specs.Next.{fresh_pair}
 use Rattle.ledger_model.specs.Receiving.{lands_on}
-use Rattle.plan_model.specs.Plans.{pair_plan}
+use Rattle.pair_model.specs.Plans.{pair_plan}
 use Rattle.ledger_laws.proofs.EachPair.{log_after}
 use Rattle.ledger_laws.proofs.LogGrowth.{left_by}
 use Rattle.ledger_laws.proofs.walk.Logs.{OwnTodos}

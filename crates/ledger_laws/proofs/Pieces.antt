@@ -4,7 +4,7 @@ use Rattle.std.proofs.lemmas.List.{length-map}
 use Rattle.lane_model.specs.Lane.{Entry, count_from}
 use Rattle.lane_laws.proofs.Facade.{length-count_from}
 use Rattle.ledger_model.specs.Pieces.{piece_of, pieces_of}
-use Rattle.plan_model.specs.Sizes.{pieces_in}
+use Rattle.pair_model.specs.Sizes.{pieces_in}
 
 pub record HasPieces (largest : ℕ) (bytes : List ℕ) : Type 0 where
   pub first : Entry

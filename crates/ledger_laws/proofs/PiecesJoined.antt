@@ -9,7 +9,7 @@ use Rattle.ledger_laws.proofs.Frames.{frames_from, number_after, rest_after}
 use Rattle.std.proofs.lemmas.List.{length-drop, drop-drop, take_all, take-append-drop}
 use Rattle.lane_model.specs.Lane.{Entry, Carries, count_from}
 use Rattle.ledger_model.specs.Pieces.{pieces_of}
-use Rattle.plan_model.specs.Sizes.{agreed_version, most_bytes, pieces_in}
+use Rattle.pair_model.specs.Sizes.{agreed_version, most_bytes, pieces_in}
 
 -- Joined, the pieces are the frame
 

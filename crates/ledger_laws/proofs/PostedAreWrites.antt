@@ -18,14 +18,14 @@ use Rattle.step_kinds.specs.declared.steps.Step.{Step}
 use Rattle.step_kinds.specs.declared.steps.Step.TheVariants.{Enable, Train, Break, DropDone, Clean, Offer, Check, Ready, Join, Begin, QpDown, Xbegin, Post, Land, Look, Copy, Clear, Ack, Wake, Spad, Poke}
 use Rattle.lane_model.specs.Lane.{Entry, GoesDown}
 use Rattle.lane_model.specs.declared.Phase.TheVariants.{Idle, Copying, Copied, Cleared}
-use Rattle.plan_model.specs.Both.{Both, at_side}
-use Rattle.plan_model.specs.Ethernet.{ethernet_frame}
-use Rattle.plan_model.specs.Link.{Link, is_down, is_closing}
-use Rattle.plan_model.specs.Plans.{dev_plan, pair_plan}
-use Rattle.plan_model.specs.Sizes.{sizes_of}
-use Rattle.plan_model.specs.declared.LinkState.{LinkState}
-use Rattle.plan_model.specs.declared.LinkState.TheVariants.{Down as LinkIsDown, Up as LinkIsUp, Closing}
-use Rattle.byte_model.specs.Headers.{Bytes}
+use Rattle.pair_model.specs.Both.{Both, at_side}
+use Rattle.pair_model.specs.Ethernet.{ethernet_frame}
+use Rattle.pair_model.specs.Link.{Link, is_down, is_closing}
+use Rattle.pair_model.specs.Plans.{dev_plan, pair_plan}
+use Rattle.pair_model.specs.Sizes.{sizes_of}
+use Rattle.pair_model.specs.declared.LinkState.{LinkState}
+use Rattle.pair_model.specs.declared.LinkState.TheVariants.{Down as LinkIsDown, Up as LinkIsUp, Closing}
+use Rattle.pair_model.specs.Headers.{Bytes}
 use Rattle.ledger_model.specs.Labels.{labels_of}
 use Rattle.ledger_model.specs.Ledger.{LanePart, PairPart, lane_of, lane_to, with_lane}
 use Rattle.ledger_model.specs.Log.{Answered, is_on, trains, posts_write, posted_in}

@@ -8,10 +8,10 @@ use Rattle.step_kinds.specs.Sides.{other_side}
 use Rattle.step_kinds.specs.declared.names.LaneName.{LaneName}
 use Rattle.step_kinds.specs.declared.plan.Plan.{Plan}
 use Rattle.step_kinds.specs.declared.plan.PairPlan.{PairPlan}
-use Rattle.plan_model.specs.Plans.{pair_plan}
+use Rattle.pair_model.specs.Plans.{pair_plan}
 use Rattle.ledger_laws.specs.Laws.{QuietMeansDone}
 use Rattle.ledger_model.specs.Ledger.{LanePart, PairPart, side_of, lane_of}
-use Rattle.plan_model.specs.Link.{is_up}
+use Rattle.pair_model.specs.Link.{is_up}
 use Rattle.ledger_model.specs.Log.{Answered, log_of, ledger_of, accepted, delivered, last_look_empty}
 use Rattle.ledger_model.specs.Next.{fresh_pair}
 use Rattle.ledger_laws.proofs.AtStart.{fresh-lane, fresh-flight}

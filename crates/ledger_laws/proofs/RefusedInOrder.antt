@@ -16,16 +16,16 @@ use Rattle.step_kinds.specs.declared.steps.Step.{Step}
 use Rattle.step_kinds.specs.declared.steps.Step.TheVariants.{Enable, Train, Break, DropDone, Clean, Offer, Check, Ready, Join, Begin, QpDown, Xbegin, Post, Land, Look, Copy, Clear, Ack, Wake}
 use Rattle.order_rules.specs.Order.{may_land}
 use Rattle.lane_model.specs.Lane.{Entry, chunks_in}
-use Rattle.plan_model.specs.Device.{stays_stopped}
-use Rattle.plan_model.specs.Ethernet.{ethernet_frame}
-use Rattle.plan_model.specs.Link.{enable_refusal, enabled_link, train_refusal, cut_refusal, drop_refusal, clean_refusal}
-use Rattle.plan_model.specs.Orders.{order_of}
-use Rattle.plan_model.specs.Pads.{links_pad, offers, pad_index, queues_pad, version_pad, windows_pad, first_larger, versions_differ}
-use Rattle.plan_model.specs.Plans.{dev_plan, pair_plan, side_plan}
-use Rattle.plan_model.specs.Sizes.{pieces_in, sizes_of}
-use Rattle.plan_model.specs.declared.LinkRefusal.{LinkRefusal}
-use Rattle.plan_model.specs.declared.LinkRefusal.TheVariants.{NotDown, Dirty, NotEnabled, NotUp, NotClosing, SessionsSpent}
-use Rattle.byte_model.specs.Headers.{Bytes, Found, NoEntry, ALinkDownEntry, AnotherVersion, TooManyBytes, AnEntry}
+use Rattle.pair_model.specs.Device.{stays_stopped}
+use Rattle.pair_model.specs.Ethernet.{ethernet_frame}
+use Rattle.pair_model.specs.Link.{enable_refusal, enabled_link, train_refusal, cut_refusal, drop_refusal, clean_refusal}
+use Rattle.pair_model.specs.Orders.{order_of}
+use Rattle.pair_model.specs.Pads.{links_pad, offers, pad_index, queues_pad, version_pad, windows_pad, first_larger, versions_differ}
+use Rattle.pair_model.specs.Plans.{dev_plan, pair_plan, side_plan}
+use Rattle.pair_model.specs.Sizes.{pieces_in, sizes_of}
+use Rattle.pair_model.specs.declared.LinkRefusal.{LinkRefusal}
+use Rattle.pair_model.specs.declared.LinkRefusal.TheVariants.{NotDown, Dirty, NotEnabled, NotUp, NotClosing, SessionsSpent}
+use Rattle.pair_model.specs.Headers.{Bytes, Found, NoEntry, ALinkDownEntry, AnotherVersion, TooManyBytes, AnEntry}
 use Rattle.ledger_model.specs.Handshake.{check_refusal, pad_in, refuse_larger}
 use Rattle.ledger_model.specs.Ledger.{PairPart, head_in, side_of, lane_of, lane_to, dev_of, link_up, posts, with_dev, with_side_part}
 use Rattle.ledger_model.specs.LinkSteps.{answer_of_refusal, refusal_answer}

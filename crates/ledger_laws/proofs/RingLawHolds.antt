@@ -17,8 +17,8 @@ use Rattle.ring_geometry.specs.Geometry.{Layout, HasRing, ring_bytes, frame_size
 use Rattle.ledger_model.specs.LinkSteps.{fresh_lane}
 use Rattle.ledger_model.specs.Log.{Answered, ledger_of}
 use Rattle.ledger_model.specs.Rings.{RingPart, zeroed_slot, fresh_ring, ring_of, shown_lane}
-use Rattle.plan_model.specs.Plans.{pair_plan}
-use Rattle.plan_model.specs.Sizes.{Sizes, layout_of, sizes_of}
+use Rattle.pair_model.specs.Plans.{pair_plan}
+use Rattle.pair_model.specs.Sizes.{Sizes, layout_of, sizes_of}
 use Rattle.ledger_laws.specs.Laws.{IsOrdinaryOn}
 use Rattle.ledger_laws.specs.Rings.{RingLawOfReceiver, IndexWordIsTail, RingLawHolds}
 use Rattle.ledger_laws.proofs.EntriesFit.{EntriesKnown, entries_run}

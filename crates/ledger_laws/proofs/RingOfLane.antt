@@ -29,9 +29,9 @@ use Rattle.ledger_model.specs.Ledger.{LanePart}
 use Rattle.ledger_model.specs.Log.{Answered}
 use Rattle.ledger_model.specs.Receiving.{is_idle, is_copying, is_copied, is_cleared}
 use Rattle.ledger_model.specs.Rings.{RingPart, lane_shown, without_header}
-use Rattle.plan_model.specs.Link.{is_up, is_down}
-use Rattle.plan_model.specs.Pads.{links_pad}
-use Rattle.plan_model.specs.Sizes.{Sizes}
+use Rattle.pair_model.specs.Link.{is_up, is_down}
+use Rattle.pair_model.specs.Pads.{links_pad}
+use Rattle.pair_model.specs.Sizes.{Sizes}
 use Rattle.ledger_laws.specs.Rings.{with_tail}
 use Rattle.ledger_laws.proofs.AtStart.{up-not_down, down-not_up, closing-not_up}
 use Rattle.ledger_laws.proofs.CleanSides.{not_down_with}

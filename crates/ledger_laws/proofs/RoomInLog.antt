@@ -12,8 +12,8 @@ use Rattle.step_kinds.specs.declared.steps.Label.TheVariants.{Index}
 use Rattle.lane_model.specs.Lane.{Entry, count_from, GoesDown}
 use Rattle.lane_model.specs.declared.Phase.TheVariants.{Copied}
 use Rattle.step_kinds.specs.Sides.{other_side}
-use Rattle.plan_model.specs.Plans.{pair_plan}
-use Rattle.plan_model.specs.Sizes.{pieces_in}
+use Rattle.pair_model.specs.Plans.{pair_plan}
+use Rattle.pair_model.specs.Sizes.{pieces_in}
 use Rattle.ledger_model.specs.Ledger.{LanePart, begun_in, free_of}
 use Rattle.ledger_model.specs.Pieces.{pieces_of}
 use Rattle.ledger_laws.proofs.AtStart.{up-not_down}
@@ -22,10 +22,10 @@ use Rattle.ledger_laws.proofs.Frames.{CarriesAt, carries-within, carries-append}
 use Rattle.ledger_laws.proofs.Pieces.{length-pieces}
 use Rattle.lane_model.specs.declared.Phase.{Phase}
 use Rattle.ledger_model.specs.Labels.{index_of, indexes_among}
-use Rattle.plan_model.specs.Link.{is_down, is_up}
+use Rattle.pair_model.specs.Link.{is_down, is_up}
 use Rattle.ledger_model.specs.Log.{Answered, trains, takes_room, gives_room, in_this_session, made_since, room_in}
 use Rattle.ledger_model.specs.Receiving.{is_copying, is_copied, is_cleared}
-use Rattle.plan_model.specs.declared.LinkState.{LinkState}
+use Rattle.pair_model.specs.declared.LinkState.{LinkState}
 use Rattle.lane_laws.proofs.Facade.{count_from-push}
 use Rattle.ledger_laws.proofs.InFlight.{count_by-last, push_some, filter_map-remove, lands_first, posted_unread, posted_up, posted_lost, EmptyOf, empty_kept}
 use Rattle.ledger_laws.proofs.Labels.{index_strict, indexes_one_class}

@@ -9,11 +9,11 @@ use Rattle.step_kinds.specs.declared.steps.Answer.{Answer}
 use Rattle.step_kinds.specs.declared.steps.Answer.TheVariants.{OkNumber, LinkDown, NotReady, Closed, TooLong, Busy, Stopped, Again, Awake}
 use Rattle.step_kinds.specs.declared.steps.Step.{Step}
 use Rattle.step_kinds.specs.declared.steps.Step.TheVariants.{Enable, Train, Break, DropDone, Clean, Offer, Check, Ready, Join, Begin, QpDown, Xbegin, Post, Land, Look, Copy, Clear, Ack, Wake}
-use Rattle.plan_model.specs.Device.{stays_stopped}
-use Rattle.plan_model.specs.Ethernet.{ethernet_frame}
-use Rattle.plan_model.specs.Plans.{dev_plan, pair_plan}
-use Rattle.plan_model.specs.Sizes.{pieces_in, sizes_of}
-use Rattle.byte_model.specs.Headers.{Bytes}
+use Rattle.pair_model.specs.Device.{stays_stopped}
+use Rattle.pair_model.specs.Ethernet.{ethernet_frame}
+use Rattle.pair_model.specs.Plans.{dev_plan, pair_plan}
+use Rattle.pair_model.specs.Sizes.{pieces_in, sizes_of}
+use Rattle.pair_model.specs.Headers.{Bytes}
 use Rattle.ledger_model.specs.Ledger.{PairPart, side_of, lane_of, dev_of, link_up, with_dev}
 use Rattle.ledger_model.specs.Log.{Answered, Memories, log_of, ledger_of, room_in}
 use Rattle.ledger_model.specs.Next.{outcome_in}

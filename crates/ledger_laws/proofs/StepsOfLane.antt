@@ -11,8 +11,8 @@ use Rattle.ledger_model.specs.Ledger.{LanePart, lane_of}
 use Rattle.ledger_model.specs.Log.{Answered, Memories, answered, log_from, ledger_from, log_of, ledger_of}
 use Rattle.ledger_model.specs.Next.{Ledger, ledger_after, start}
 use Rattle.ledger_model.specs.Rings.{RingPart, fresh_ring, ring_next, ring_from, ring_of, shown_lane}
-use Rattle.plan_model.specs.Plans.{pair_plan}
-use Rattle.plan_model.specs.Sizes.{layout_of}
+use Rattle.pair_model.specs.Plans.{pair_plan}
+use Rattle.pair_model.specs.Sizes.{layout_of}
 use Rattle.ledger_laws.specs.Laws.{IsOrdinaryOn}
 use Rattle.ledger_laws.specs.LaneChanges.{change_of}
 use Rattle.ledger_laws.specs.LaneSteps.{AreBothUp, EachStepIsOfTheLane, MovesByLaneSteps}

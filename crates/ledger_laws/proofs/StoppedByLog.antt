@@ -16,11 +16,11 @@ use Rattle.step_kinds.specs.declared.steps.Answer.TheVariants.{Ok as Done, OkNum
 use Rattle.step_kinds.specs.declared.steps.Label.TheVariants.{Index, Pad, Raw}
 use Rattle.step_kinds.specs.declared.steps.Step.{Step}
 use Rattle.step_kinds.specs.declared.steps.Step.TheVariants.{Enable, Train, Break, DropDone, Clean, Offer, Check, Ready, Join, Begin, QpDown, Xbegin, Post, Land, Look, Copy, Clear, Ack, Wake, Spad, Poke}
-use Rattle.plan_model.specs.Both.{at_side, with_side}
-use Rattle.plan_model.specs.Ethernet.{ethernet_frame}
-use Rattle.plan_model.specs.Plans.{dev_plan, pair_plan}
-use Rattle.plan_model.specs.Sizes.{sizes_of}
-use Rattle.byte_model.specs.Headers.{Bytes}
+use Rattle.pair_model.specs.Both.{at_side, with_side}
+use Rattle.pair_model.specs.Ethernet.{ethernet_frame}
+use Rattle.pair_model.specs.Plans.{dev_plan, pair_plan}
+use Rattle.pair_model.specs.Sizes.{sizes_of}
+use Rattle.pair_model.specs.Headers.{Bytes}
 use Rattle.ledger_model.specs.Ledger.{DevPart, PairPart, dev_of, free_of, lane_of, lane_to, link_up, with_lane}
 use Rattle.ledger_model.specs.LinkSteps.{started_dev}
 use Rattle.ledger_model.specs.Log.{Answered, Memories, is_on, ledger_of, log_of, room_in}

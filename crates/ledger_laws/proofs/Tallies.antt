@@ -14,7 +14,7 @@ use Rattle.step_kinds.specs.declared.plan.PairPlan.{PairPlan}
 use Rattle.ledger_model.specs.Ledger.{Tally, tally_of, updated}
 use Rattle.ledger_model.specs.Log.{Answered, Numbered, accepts, delivers, accepted, delivered, first_session, trains, made_in, log_of}
 use Rattle.ledger_model.specs.Next.{fresh_pair, no_tally}
-use Rattle.plan_model.specs.Plans.{pair_plan}
+use Rattle.pair_model.specs.Plans.{pair_plan}
 use Rattle.ledger_laws.specs.Laws.{SessionsAreCounts, TalliesAreCounts}
 use Rattle.ledger_laws.proofs.LogReaders.{session_at, session_at-last, found_in-last}
 use Rattle.ledger_laws.proofs.walk.Logs.{HoldsAlways, always_after}

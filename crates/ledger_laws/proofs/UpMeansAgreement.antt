@@ -14,13 +14,13 @@ use Rattle.step_kinds.specs.declared.steps.Answer.TheVariants.{LinkDown, Already
 use Rattle.step_kinds.specs.declared.steps.Label.{Label}
 use Rattle.step_kinds.specs.declared.steps.Step.TheVariants.{Check}
 use Rattle.lane_model.specs.Lane.{count_from}
-use Rattle.plan_model.specs.Both.{both_of}
+use Rattle.pair_model.specs.Both.{both_of}
 use Rattle.ledger_model.specs.Handshake.{pad_in, refuse_larger, check_refusal, check_step}
-use Rattle.plan_model.specs.Pads.{word, offers, first_larger, size_in, versions_differ, high_pad, low_pad, queues_pad, version_pad, windows_pad}
-use Rattle.plan_model.specs.Plans.{pair_plan, side_plan}
+use Rattle.pair_model.specs.Pads.{word, offers, first_larger, size_in, versions_differ, high_pad, low_pad, queues_pad, version_pad, windows_pad}
+use Rattle.pair_model.specs.Plans.{pair_plan, side_plan}
 use Rattle.ledger_laws.specs.Laws.{UpMeansAgreement, Agrees, VersionsAgree, HasNumbersInRange, IsOrdinaryOn}
 use Rattle.ledger_model.specs.Ledger.{PairPart, SidePart, side_of, link_up}
-use Rattle.plan_model.specs.Link.{is_up, fresh_link}
+use Rattle.pair_model.specs.Link.{is_up, fresh_link}
 use Rattle.ledger_model.specs.Log.{Answered, log_of, ledger_of, landed_pad}
 use Rattle.ledger_model.specs.Next.{fresh_pair, idle_side, agreed_side}
 use Rattle.ledger_laws.proofs.AtStart.{fresh-flight}

@@ -9,8 +9,8 @@ use Rattle.step_kinds.specs.declared.steps.Answer.TheVariants.{Ok as Done, OkNum
 use Rattle.step_kinds.specs.declared.steps.Step.{Step}
 use Rattle.step_kinds.specs.declared.steps.Step.TheVariants.{Clean, Begin, QpDown, Xbegin, Wake}
 use Rattle.ledger_model.specs.Log.{Answered, is_on, room_in}
-use Rattle.plan_model.specs.Ethernet.{ethernet_frame}
-use Rattle.plan_model.specs.Plans.{dev_plan}
+use Rattle.pair_model.specs.Ethernet.{ethernet_frame}
+use Rattle.pair_model.specs.Plans.{dev_plan}
 use Rattle.ledger_laws.specs.Drivers.{FoundAs, fits_queue, has_left, may_begin, queue_named}
 use Rattle.ledger_laws.specs.Laws.{entries_needed, is_again}
 

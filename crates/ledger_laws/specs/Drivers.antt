@@ -15,9 +15,9 @@ use Rattle.step_kinds.specs.declared.steps.Step.TheVariants.{Train, Clean, Ready
 use Rattle.lane_model.specs.Lane.{Entry, GoesDown, writes_of}
 use Rattle.ledger_model.specs.Log.{Answered, Memories, in_this_session, is_on, log_of, up_at}
 use Rattle.ledger_model.specs.Pieces.{pieces_of}
-use Rattle.plan_model.specs.Ethernet.{ethernet_frame}
-use Rattle.plan_model.specs.Plans.{dev_plan, pair_plan, side_plan}
-use Rattle.plan_model.specs.Sizes.{sizes_of}
+use Rattle.pair_model.specs.Ethernet.{ethernet_frame}
+use Rattle.pair_model.specs.Plans.{dev_plan, pair_plan, side_plan}
+use Rattle.pair_model.specs.Sizes.{sizes_of}
 use Rattle.ledger_laws.specs.Laws.{GoesOn, IsOrdinaryPair}
 
 -- What the driver of a side's queue knows: whether the side has it ready, joined and closed, and how many writes of its

@@ -14,8 +14,8 @@ use Rattle.step_kinds.specs.declared.steps.Step.{Step}
 use Rattle.step_kinds.specs.declared.steps.Step.TheVariants.{Train, Break, DropDone, Clean, Offer, Ready, Post, Land, Ack, Spad, Poke}
 use Rattle.ledger_model.specs.Ledger.{side_of}
 use Rattle.ledger_model.specs.Log.{Answered, Memories, ledger_of, log_of}
-use Rattle.plan_model.specs.Pads.{links_pad, offers}
-use Rattle.plan_model.specs.Plans.{pair_plan, side_plan}
+use Rattle.pair_model.specs.Pads.{links_pad, offers}
+use Rattle.pair_model.specs.Plans.{pair_plan, side_plan}
 use Rattle.ledger_laws.specs.Laws.{IsOrdinaryPair}
 
 -- of a side: whether its pair's link is up, how many of its numbers it has offered, which queues it has said are ready,

@@ -8,7 +8,7 @@ use Rattle.lane_model.specs.declared.Write.{Write}
 use Rattle.lane_model.specs.declared.Write.TheVariants.{Data}
 use Rattle.ledger_model.specs.Labels.{write_of, index_of}
 use Rattle.order_rules.specs.Order.{Order, relaxed, strict, may_land}
-use Rattle.plan_model.specs.Orders.{order_of}
+use Rattle.pair_model.specs.Orders.{order_of}
 
 -- how a write of a lane is ordered among the lane's own: on a strict pair all are strict, elsewhere the fields of an
 -- entry are relaxed

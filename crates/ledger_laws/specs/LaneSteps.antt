@@ -14,8 +14,8 @@ use Rattle.ring_geometry.specs.Geometry.{HasRing}
 use Rattle.ledger_model.specs.Ledger.{PairPart, side_of}
 use Rattle.ledger_model.specs.Log.{Memories, ledger_of}
 use Rattle.ledger_model.specs.Rings.{ring_of, shown_lane}
-use Rattle.plan_model.specs.Plans.{pair_plan}
-use Rattle.plan_model.specs.Sizes.{layout_of, sizes_of}
+use Rattle.pair_model.specs.Plans.{pair_plan}
+use Rattle.pair_model.specs.Sizes.{layout_of, sizes_of}
 use Rattle.ledger_laws.specs.LaneChanges.{LaneChange, Unchanged, LinkIsLost, FlightIsDropped, EntryIsBegun, WriteIsPosted, WriteLands, IndexLands, EntryIsFound, PartIsCopied, FlagsAreCleared, IndexIsPosted, change_of}
 use Rattle.ledger_laws.specs.Laws.{GoesOn, IsOrdinaryOn, IsOrdinaryPair}
 

@@ -14,19 +14,19 @@ use Rattle.step_kinds.specs.declared.steps.Answer.TheVariants.{LinkDown, Up, Aga
 use Rattle.step_kinds.specs.declared.steps.Label.{Label}
 use Rattle.step_kinds.specs.declared.steps.Step.{Step}
 use Rattle.step_kinds.specs.declared.steps.Step.TheVariants.{Offer, Check, Ready, Join, Begin, QpDown, Xbegin, Copy, Clear, Spad, Poke}
-use Rattle.plan_model.specs.Pads.{word}
+use Rattle.pair_model.specs.Pads.{word}
 use Rattle.lane_model.specs.Lane.{Entry, chunks_in}
-use Rattle.plan_model.specs.Both.{at_side}
-use Rattle.plan_model.specs.Link.{is_down}
+use Rattle.pair_model.specs.Both.{at_side}
+use Rattle.pair_model.specs.Link.{is_down}
 use Rattle.ledger_model.specs.Labels.{labels_of}
 use Rattle.ledger_model.specs.Ledger.{PairPart, side_of, lane_of, lane_to, dev_of, tally_of, link_up, with_dev}
 use Rattle.ledger_model.specs.Log.{Answered, Memories, Numbered, log_of, ledger_of, trains, first_session, accepted, delivered, room_in, up_at, landed_pad, last_look_empty, counters_in, posted_in, Looked, looked_in}
 use Rattle.ledger_model.specs.Sending.{is_busy}
-use Rattle.plan_model.specs.Device.{count_refused}
-use Rattle.plan_model.specs.Ethernet.{ethernet_frame}
-use Rattle.plan_model.specs.Pads.{version_pad, queues_pad, windows_pad, high_pad, low_pad}
-use Rattle.plan_model.specs.Plans.{pair_plan, side_plan, dev_plan}
-use Rattle.plan_model.specs.Sizes.{Sizes, sizes_of, pieces_in}
+use Rattle.pair_model.specs.Device.{count_refused}
+use Rattle.pair_model.specs.Ethernet.{ethernet_frame}
+use Rattle.pair_model.specs.Pads.{version_pad, queues_pad, windows_pad, high_pad, low_pad}
+use Rattle.pair_model.specs.Plans.{pair_plan, side_plan, dev_plan}
+use Rattle.pair_model.specs.Sizes.{Sizes, sizes_of, pieces_in}
 
 -- the lane's pair answers by the ledger, and not by what bytes stand in memory
 abbrev pub IsOrdinaryPair : Plan → ℕ → Type 0
@@ -134,7 +134,7 @@ LinkDownWhereNotUp = (plan : Plan) (memories : Memories) (steps : List Step) (st
 -- Agreement
 
 -- a side whose numbers are as the law of a check needs them: a version that fits a scratchpad, few queues and windows,
--- and sizes from 4096 bytes on. This asks less than a script's declaration does, which `IsSide` of plan_model says.
+-- and sizes from 4096 bytes on. This asks less than a script's declaration does, which `IsSide` of pair_model says.
 pub record HasNumbersInRange (side : SidePlan) : Type 0 where
   pub a_version : 0 < side.version
   pub few_versions : side.version < word

@@ -8,3 +8,9 @@ pub mod Laws
 pub mod Rings
 pub mod States
 pub mod Together
+pub mod Readings
+pub mod StoredRings
+pub mod Separate
+pub mod Erased
+pub mod NetworkLaws
+pub mod Paths

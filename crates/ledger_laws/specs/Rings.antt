@@ -10,8 +10,8 @@ use Rattle.lane_model.specs.Ring.{tail_of}
 use Rattle.ring_geometry.specs.Geometry.{HasRing}
 use Rattle.ledger_model.specs.Ledger.{LanePart, side_of, lane_of}
 use Rattle.ledger_model.specs.Log.{Memories, ledger_of}
-use Rattle.plan_model.specs.Plans.{pair_plan}
-use Rattle.plan_model.specs.Sizes.{Sizes, layout_of, sizes_of}
+use Rattle.pair_model.specs.Plans.{pair_plan}
+use Rattle.pair_model.specs.Sizes.{Sizes, layout_of, sizes_of}
 use Rattle.ledger_model.specs.Rings.{RingPart, ring_of, shown_lane}
 use Rattle.ledger_laws.specs.Laws.{IsOrdinaryOn, IsOrdinaryPair}
 

@@ -19,10 +19,10 @@ use Rattle.ledger_model.specs.LinkSteps.{fresh_lane}
 use Rattle.ledger_model.specs.Log.{Memories, ledger_of}
 use Rattle.ledger_model.specs.Receiving.{is_idle, is_copying}
 use Rattle.ledger_model.specs.Sending.{is_busy}
-use Rattle.plan_model.specs.DeclaredPlans.{IsPair, Agree, IsPermitted}
-use Rattle.plan_model.specs.Link.{is_down}
-use Rattle.plan_model.specs.Plans.{pair_plan, side_plan}
-use Rattle.plan_model.specs.Sizes.{Sizes, sizes_of}
+use Rattle.pair_model.specs.DeclaredPlans.{IsPair, Agree, IsPermitted}
+use Rattle.pair_model.specs.Link.{is_down}
+use Rattle.pair_model.specs.Plans.{pair_plan, side_plan}
+use Rattle.pair_model.specs.Sizes.{Sizes, sizes_of}
 use Rattle.ledger_laws.specs.Laws.{IsOrdinaryOn, IsOrdinaryPair, has_forgotten}
 
 -- The entries of a lane

@@ -20,11 +20,11 @@ use Rattle.lane_model.specs.Ring.{tail_of}
 use Rattle.ledger_model.specs.Ledger.{dev_of, lane_of, lane_to, side_of, tally_of}
 use Rattle.ledger_model.specs.Log.{Memories, accepted, counters_in, delivered, first_session, ledger_of, log_of, looked_in, posted_in, trains, up_at}
 use Rattle.ledger_model.specs.Rings.{ring_of, shown_lane}
-use Rattle.plan_model.specs.DeclaredPlans.{Agree, IsDeclared, IsPairOf, IsPermitted}
-use Rattle.plan_model.specs.Link.{is_down}
-use Rattle.plan_model.specs.Orders.{order_of}
-use Rattle.plan_model.specs.Plans.{pair_plan, side_plan}
-use Rattle.plan_model.specs.Sizes.{layout_of, sizes_of}
+use Rattle.pair_model.specs.DeclaredPlans.{Agree, IsDeclared, IsPairOf, IsPermitted}
+use Rattle.pair_model.specs.Link.{is_down}
+use Rattle.pair_model.specs.Orders.{order_of}
+use Rattle.pair_model.specs.Plans.{pair_plan, side_plan}
+use Rattle.pair_model.specs.Sizes.{layout_of, sizes_of}
 use Rattle.ledger_laws.specs.Devices.{finds_full, finds_stopped, is_stopped_answer}
 use Rattle.ledger_laws.specs.Drivers.{finds_busy, finds_closed, finds_down, finds_long, finds_nothing, is_busy_answer, is_closed, is_empty_answer, is_not_ready, is_peer_down, is_too_long, lacks_queue}
 use Rattle.ledger_laws.specs.Flights.{in_flight as in_flight_by}

@@ -16,7 +16,7 @@ use Rattle.ledger_model.specs.Ledger.{tally_of}
 use Rattle.ledger_model.specs.Log.{Answered, Memories, ledger_of, log_of, counters_in, posted_in, looked_in}
 use Rattle.ledger_model.specs.Next.{fresh_pair}
 use Rattle.ledger_model.specs.Reading.{reading_of}
-use Rattle.plan_model.specs.Macros.{send, xmit, land_all, receive, offer_all}
+use Rattle.pair_model.specs.Macros.{send, xmit, land_all, receive, offer_all}
 
 -- a side of one window and one queue with 4,096 bytes
 abbrev pub small_side : SidePlan

@@ -10,9 +10,9 @@ use Rattle.step_kinds.specs.declared.steps.Answer.{Answer}
 use Rattle.step_kinds.specs.declared.steps.Answer.TheVariants.{Ok as Done, LinkDown, Already, Offered, NotYet, Version, Queues, Windows, Size, Up, NotChecked, NotReady, Joined}
 use Rattle.ledger_model.specs.Ledger.{SidePart, PairPart, side_of, with_side_part, link_up, posts}
 use Rattle.ledger_model.specs.Outcome.{Outcome, refuse_if, decided}
-use Rattle.plan_model.specs.Pads.{version_pad, links_pad, queues_pad, windows_pad, offers, size_in, versions_differ, first_larger, pad_index}
-use Rattle.plan_model.specs.Plans.{side_plan}
-use Rattle.plan_model.specs.Refusals.{Test, OfLink, OfOffer, OfCheck, OfVersion, OfQueues, OfWindows, OfSizes, OfReady, OfPeer, OfJoined, in_offer_order, in_check_order, in_ready_order, in_join_order}
+use Rattle.pair_model.specs.Pads.{version_pad, links_pad, queues_pad, windows_pad, offers, size_in, versions_differ, first_larger, pad_index}
+use Rattle.pair_model.specs.Plans.{side_plan}
+use Rattle.pair_model.specs.Refusals.{Test, OfLink, OfOffer, OfCheck, OfVersion, OfQueues, OfWindows, OfSizes, OfReady, OfPeer, OfJoined, in_offer_order, in_check_order, in_ready_order, in_join_order}
 
 abbrev pub offer_refuses : PairPlan → PairPart → Side → Test → Option Answer → Option Answer
 offer_refuses plan pair side OfLink later = refuse_if (not (link_up pair)) LinkDown later

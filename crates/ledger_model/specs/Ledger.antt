@@ -8,9 +8,9 @@ use Rattle.step_kinds.specs.declared.steps.Label.{Label}
 use Rattle.lane_model.specs.Ring.{head_of, tail_of, room_of}
 use Rattle.lane_model.specs.Lane.{Entry, GoesDown}
 use Rattle.lane_model.specs.declared.Phase.{Phase}
-use Rattle.plan_model.specs.Both.{Both, at_side, with_side}
-use Rattle.plan_model.specs.Link.{Link, is_up}
-use Rattle.plan_model.specs.Sizes.{Sizes}
+use Rattle.pair_model.specs.Both.{Both, at_side, with_side}
+use Rattle.pair_model.specs.Link.{Link, is_up}
+use Rattle.pair_model.specs.Sizes.{Sizes}
 
 -- A lane in the pair's session: what its sender began, what its receiver found, and how far each is. The labels in
 -- flight stand with the side that posted them.

@@ -12,3 +12,12 @@ pub mod Receiving
 pub mod Registers
 pub mod Rings
 pub mod Sending
+pub mod MemoryExamples
+pub mod Memory
+pub mod Targets
+pub mod NetworkExamples
+pub mod NetworkLog
+pub mod Network
+pub mod Origins
+pub mod Paths
+pub mod Ports

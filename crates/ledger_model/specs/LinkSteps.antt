@@ -6,12 +6,12 @@ use Rattle.step_kinds.specs.declared.steps.Answer.{Answer}
 use Rattle.step_kinds.specs.declared.steps.Answer.TheVariants.{Ok as Done, OkSession, NotDown as AnswerNotDown, Dirty as AnswerDirty, NotEnabled as AnswerNotEnabled, Spent, NotUp as AnswerNotUp, NotClosing as AnswerNotClosing}
 use Rattle.lane_model.specs.Lane.{new_lane}
 use Rattle.lane_model.specs.declared.Phase.TheVariants.{Idle}
-use Rattle.plan_model.specs.Both.{Both, at_side, with_side, both_of}
+use Rattle.pair_model.specs.Both.{Both, at_side, with_side, both_of}
 use Rattle.ledger_model.specs.Ledger.{LanePart, SidePart, DevPart, PairPart, side_of}
-use Rattle.plan_model.specs.Link.{enable_refusal, enabled_link, train_refusal, trained_link, cut_refusal, cut_link, drop_refusal, dropped_link, clean_refusal, cleaned_link}
+use Rattle.pair_model.specs.Link.{enable_refusal, enabled_link, train_refusal, trained_link, cut_refusal, cut_link, drop_refusal, dropped_link, clean_refusal, cleaned_link}
 use Rattle.ledger_model.specs.Outcome.{Outcome, decided}
-use Rattle.plan_model.specs.declared.LinkRefusal.{LinkRefusal}
-use Rattle.plan_model.specs.declared.LinkRefusal.TheVariants.{NotDown, Dirty, NotEnabled, NotUp, NotClosing, SessionsSpent}
+use Rattle.pair_model.specs.declared.LinkRefusal.{LinkRefusal}
+use Rattle.pair_model.specs.declared.LinkRefusal.TheVariants.{NotDown, Dirty, NotEnabled, NotUp, NotClosing, SessionsSpent}
 
 -- the answer that says a refusal of the link
 abbrev pub refusal_answer : LinkRefusal → Answer

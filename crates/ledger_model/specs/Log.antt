@@ -14,11 +14,11 @@ use Rattle.step_kinds.specs.declared.steps.Answer.{Answer}
 use Rattle.step_kinds.specs.declared.steps.Answer.TheVariants.{Ok as Done, OkSession, OkNumber, Posted, Landed, Empty, ReadyFrame, Copied as CopiedPart, Delivered, Irq as IrqBits}
 use Rattle.step_kinds.specs.declared.steps.Step.{Step}
 use Rattle.step_kinds.specs.declared.steps.Step.TheVariants.{Train, Break, Begin, QpDown, Xbegin, Post, Land, Look, Copy, Irq}
-use Rattle.byte_model.specs.Headers.{Bytes}
+use Rattle.pair_model.specs.Headers.{Bytes}
 use Rattle.ledger_model.specs.Next.{Ledger, start, outcome_in, ledger_after}
-use Rattle.plan_model.specs.Ethernet.{ethernet_frame, ethernet_header}
-use Rattle.plan_model.specs.Plans.{pair_plan, dev_plan}
-use Rattle.plan_model.specs.Sizes.{sizes_of, pieces_in}
+use Rattle.pair_model.specs.Ethernet.{ethernet_frame, ethernet_header}
+use Rattle.pair_model.specs.Plans.{pair_plan, dev_plan}
+use Rattle.pair_model.specs.Sizes.{sizes_of, pieces_in}
 
 pub record Answered : Type 0 where
   pub step : Step

@@ -8,21 +8,21 @@ use Rattle.step_kinds.specs.declared.plan.DevPlan.{DevPlan}
 use Rattle.step_kinds.specs.declared.plan.Plan.{Plan}
 use Rattle.step_kinds.specs.declared.steps.Step.{Step}
 use Rattle.step_kinds.specs.declared.steps.Step.TheVariants.{Enable, Train, Break, DropDone, Clean, Offer, Check, Ready, Join, Begin, QpDown, Xbegin, Post, Land, Look, Copy, Clear, Ack, Wake, Irq, Mask, Unmask, Spad, Poke, ShowMem, ShowPad, ShowQueue, Relay, Xnext}
-use Rattle.plan_model.specs.Both.{both_of}
-use Rattle.plan_model.specs.Device.{no_counts}
+use Rattle.pair_model.specs.Both.{both_of}
+use Rattle.pair_model.specs.Device.{no_counts}
 use Rattle.ledger_model.specs.Handshake.{offer_step, check_step, ready_step, join_step}
 use Rattle.ledger_model.specs.Ledger.{SidePart, DevPart, Tally, PairPart, updated}
-use Rattle.plan_model.specs.Link.{fresh_link}
+use Rattle.pair_model.specs.Link.{fresh_link}
 use Rattle.ledger_model.specs.LinkSteps.{fresh_lane, enable_step, train_step, break_step, drop_step, clean_step}
 use Rattle.ledger_model.specs.Outcome.{Outcome, not_here}
-use Rattle.byte_model.specs.Headers.{Bytes}
+use Rattle.pair_model.specs.Headers.{Bytes}
 use Rattle.ledger_model.specs.Reading.{Reading, reading_of}
 use Rattle.ledger_model.specs.Receiving.{land_step, look_step, copy_step, clear_step, ack_step}
 use Rattle.ledger_model.specs.Registers.{irq_step, mask_step, unmask_step, spad_step, poke_step, show_mem_step, show_pad_step, show_queue_step}
 use Rattle.ledger_model.specs.Sending.{begin_step, qpdown_step, xbegin_step, post_step, wake_step}
-use Rattle.plan_model.specs.Pads.{offers, agreed_pads}
-use Rattle.plan_model.specs.Sizes.{sizes_of}
-use Rattle.plan_model.specs.Plans.{pair_plan, dev_plan}
+use Rattle.pair_model.specs.Pads.{offers, agreed_pads}
+use Rattle.pair_model.specs.Sizes.{sizes_of}
+use Rattle.pair_model.specs.Plans.{pair_plan, dev_plan}
 
 -- The start of a pair
 

@@ -1,2 +1,2 @@
 -- A frame cut into pieces.
-pub use Rattle.plan_model.specs.Pieces.{piece_of, pieces_of}
+pub use Rattle.pair_model.specs.Pieces.{piece_of, pieces_of}

@@ -9,9 +9,9 @@ use Rattle.step_kinds.specs.declared.steps.Label.{Label}
 use Rattle.step_kinds.specs.declared.steps.Label.TheVariants.{Chunk, Len, Ver, Flag, Down, Index, Raw}
 use Rattle.lane_model.specs.Lane.{Entry, Carries, GoesDown, bytes_of, chunk_of}
 use Rattle.ring_geometry.specs.Geometry.{window_of}
-use Rattle.plan_model.specs.Plans.{side_plan}
-use Rattle.plan_model.specs.Sizes.{layout_of, sizes_of}
-use Rattle.byte_model.specs.Headers.{Bytes, Found, NoEntry, ALinkDownEntry, AnEntry, found_in_memory, part_in_memory, index_word_in, free_in_memory}
+use Rattle.pair_model.specs.Plans.{side_plan}
+use Rattle.pair_model.specs.Sizes.{layout_of, sizes_of}
+use Rattle.pair_model.specs.Headers.{Bytes, Found, NoEntry, ALinkDownEntry, AnEntry, found_in_memory, part_in_memory, index_word_in, free_in_memory}
 use Rattle.ledger_model.specs.Ledger.{LanePart, PairPart, lane_of, lane_to, free_of, head_in, tail_in, entry_in}
 
 pub record Reading : Type 0 where

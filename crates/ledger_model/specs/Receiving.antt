@@ -13,14 +13,14 @@ use Rattle.order_rules.specs.Order.{may_land}
 use Rattle.lane_model.specs.Lane.{chunks_in}
 pub use Rattle.lane_model.specs.Tests.{is_idle, is_copying, is_copied, is_cleared}
 use Rattle.lane_model.specs.declared.Phase.TheVariants.{Idle, Copying, Copied, Cleared}
-use Rattle.plan_model.specs.Device.{count_delivered}
+use Rattle.pair_model.specs.Device.{count_delivered}
 use Rattle.ledger_model.specs.Ledger.{LanePart, SidePart, PairPart, side_of, lane_of, lane_to, dev_of, tally_of, with_side_part, with_lane, with_dev, with_tally}
 use Rattle.ledger_model.specs.Outcome.{Outcome, refuse_if, decided}
-use Rattle.byte_model.specs.Headers.{Found, NoEntry, ALinkDownEntry, AnotherVersion, TooManyBytes, AnEntry}
+use Rattle.pair_model.specs.Headers.{Found, NoEntry, ALinkDownEntry, AnotherVersion, TooManyBytes, AnEntry}
 use Rattle.ledger_model.specs.Reading.{Reading}
 use Rattle.ledger_model.specs.Sending.{posts_through}
-use Rattle.plan_model.specs.Orders.{order_of}
-use Rattle.plan_model.specs.Refusals.{Test, OfJoined, OfClosed, OfPhase, in_look_order}
+use Rattle.pair_model.specs.Orders.{order_of}
+use Rattle.pair_model.specs.Refusals.{Test, OfJoined, OfClosed, OfPhase, in_look_order}
 
 -- What a landed write changes at the peer of the side that posted it. Fields of entries and raw bytes change memory
 -- alone.

@@ -18,8 +18,8 @@ use Rattle.ledger_model.specs.Labels.{write_of, index_of, writes_among, indexes_
 use Rattle.ledger_model.specs.Ledger.{LanePart, PairPart, side_of, lane_of, link_up, entry_in}
 use Rattle.ledger_model.specs.Log.{Answered, Memories, answered, is_on}
 use Rattle.ledger_model.specs.Next.{Ledger, start, ledger_after}
-use Rattle.plan_model.specs.Plans.{pair_plan}
-use Rattle.plan_model.specs.Sizes.{Sizes, sizes_of}
+use Rattle.pair_model.specs.Plans.{pair_plan}
+use Rattle.pair_model.specs.Sizes.{Sizes, sizes_of}
 
 pub record RingPart : Type 0 where
   pub ring : List Slot

@@ -8,15 +8,15 @@ use Rattle.step_kinds.specs.declared.steps.Answer.{Answer}
 use Rattle.step_kinds.specs.declared.steps.Answer.TheVariants.{OkNumber, LinkDown, NotReady, Closed, TooLong, Busy, Stopped, Again, Idle, Posted, Awake}
 use Rattle.lane_model.specs.Lane.{Entry, GoesDown}
 pub use Rattle.lane_model.specs.Tests.{is_empty_list}
-use Rattle.plan_model.specs.Device.{Flow, stopped_after_send, stays_stopped, count_accepted, count_refused}
-use Rattle.plan_model.specs.Refusals.{Test, OfLink, OfJoined, OfClosed, OfLength, OfBusy, OfDevice, OfRoom, in_begin_order}
+use Rattle.pair_model.specs.Device.{Flow, stopped_after_send, stays_stopped, count_accepted, count_refused}
+use Rattle.pair_model.specs.Refusals.{Test, OfLink, OfJoined, OfClosed, OfLength, OfBusy, OfDevice, OfRoom, in_begin_order}
 use Rattle.ledger_model.specs.Labels.{labels_of}
 use Rattle.ledger_model.specs.Ledger.{LanePart, DevPart, PairPart, side_of, lane_of, dev_of, tally_of, with_side_part, with_lane, with_dev, with_tally, link_up, posts, head_in}
 use Rattle.ledger_model.specs.Pieces.{pieces_of}
 use Rattle.ledger_model.specs.Reading.{Reading}
 use Rattle.ledger_model.specs.Outcome.{Outcome, refuse_if, decided}
-use Rattle.plan_model.specs.Ethernet.{ethernet_frame}
-use Rattle.plan_model.specs.Sizes.{Sizes, pieces_in}
+use Rattle.pair_model.specs.Ethernet.{ethernet_frame}
+use Rattle.pair_model.specs.Sizes.{Sizes, pieces_in}
 
 -- the tests of a side that is to send on a queue, whatever it sends
 abbrev pub sender_refuses : PairPart → Side → ℕ → Test → Option Answer → Option Answer

@@ -1,5 +1,5 @@
 use Rattle.std.specs.Prelude.{Bool}
-use Rattle.plan_model.specs.Both.{Both}
+use Rattle.pair_model.specs.Both.{Both}
 use Rattle.link_state.specs.declared.flags.Flags.{Flags}
 
 -- a flag for each side

@@ -1,6 +1,6 @@
 -- What a `Link` keeps, as the link of a pair.
 use Rattle.std.specs.Prelude.{◌≤◌}
-use Rattle.plan_model.specs.Link.{Link as PairLink, last_session}
+use Rattle.pair_model.specs.Link.{Link as PairLink, last_session}
 use Rattle.link_state.specs.Flags.{both_flags}
 use Rattle.link_state.specs.declared.Link.TheInside.{Inside}
 

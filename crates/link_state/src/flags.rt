@@ -1,7 +1,7 @@
 //! A flag for each of the two sides of a pair.
 
 ghost use Rattle.std.specs.Prelude.{true, ◌≡◌};
-ghost use Rattle.plan_model.specs.Both.{at_side, both_of, with_side};
+ghost use Rattle.pair_model.specs.Both.{at_side, both_of, with_side};
 ghost use Rattle.link_state.specs.Flags.{both_flags};
 
 use step_kinds::Side;

@@ -8,8 +8,8 @@
 
 ghost use Rattle.std.specs.Prelude.{IfErr, IfOk, OnOk, ◌≡◌, ◌≢◌, ◌≤◌};
 ghost use Rattle.std.specs.Result.{result_err};
-ghost use Rattle.plan_model.specs.Both.{at_side, with_side};
-ghost use Rattle.plan_model.specs.Link.{
+ghost use Rattle.pair_model.specs.Both.{at_side, with_side};
+ghost use Rattle.pair_model.specs.Link.{
   clean_refusal,
   cleaned_link,
   cut_link,
@@ -25,7 +25,7 @@ ghost use Rattle.plan_model.specs.Link.{
   trained_link,
 };
 
-pub use plan_model::{LinkRefusal, LinkState};
+pub use pair_model::{LinkRefusal, LinkState};
 use std::marker::Model;
 use step_kinds::Side;
 
@@ -192,7 +192,7 @@ impl Link {
 }
 
 impl Model for Link {
-    ghost use Rattle.plan_model.specs.Link.{Link as PairLink};
+    ghost use Rattle.pair_model.specs.Link.{Link as PairLink};
 
     ghost Value = { PairLink };
 

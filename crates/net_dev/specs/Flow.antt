@@ -1,6 +1,6 @@
 -- The flow of a device between stopped and going on.
 use Rattle.std.specs.Prelude.{ℕ, Bool, false}
-use Rattle.plan_model.specs.Device.{Flow as DeviceFlow}
+use Rattle.pair_model.specs.Device.{Flow as DeviceFlow}
 
 -- a device that goes on, with these limits in free entries
 abbrev pub going_on : ℕ → ℕ → DeviceFlow

@@ -1,6 +1,6 @@
 -- What holds of every Ethernet frame.
 use Rattle.std.specs.Prelude.{◌≡◌, ℕ, ◌^◌, ◌<◌, List, length}
-use Rattle.plan_model.specs.Ethernet.{ethernet_frame}
+use Rattle.pair_model.specs.Ethernet.{ethernet_frame}
 
 -- a frame's addresses have six bytes each, and its kind fits in two
 abbrev pub FitsHeader : List ℕ → List ℕ → ℕ → Type 0

@@ -3,7 +3,7 @@
 
 ghost use Rattle.std.specs.Prelude.{IfErr, IfOk, IsErr, drop, length, ◌<◌, ◌↔◌, ◌≡◌, ◌≤◌};
 ghost use Rattle.step_kinds.specs.Limits.{most_frame_bytes};
-ghost use Rattle.plan_model.specs.Ethernet.{ethernet_frame, ethernet_header};
+ghost use Rattle.pair_model.specs.Ethernet.{ethernet_frame, ethernet_header};
 
 use std::alloc::{AllocError, Global};
 use step_kinds::Frame;

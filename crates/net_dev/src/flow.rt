@@ -15,7 +15,7 @@ pub struct Flow {
 }
 
 impl Flow {
-    ghost use Rattle.plan_model.specs.Device.{stays_stopped, stopped_after_send};
+    ghost use Rattle.pair_model.specs.Device.{stays_stopped, stopped_after_send};
     ghost use Rattle.net_dev.specs.Flow.{going_on, with_stopped};
 
     /// A device that goes on. It stops where fewer than `stop` entries are free, and then goes on where at least
@@ -69,7 +69,7 @@ impl Flow {
 }
 
 impl Model for Flow {
-    ghost use Rattle.plan_model.specs.Device.{Flow as DeviceFlow};
+    ghost use Rattle.pair_model.specs.Device.{Flow as DeviceFlow};
 
     ghost Value = { DeviceFlow };
 

@@ -2,7 +2,7 @@
 use Rattle.std.proofs.Common.{◌≡◌, ◌∙◌, ℕ, ◌+◌, ◌≤◌, Bool, true, false, Option, Some, Result, Ok, Err, List, [], ◌++◌, length, inl, inr, refl, sym, subst, ap, arith, nat_lt, append-nil, MatchBool}
 use Rattle.std.proofs.lemmas.Bool.{le-ltb, false≢true}
 use Rattle.std.proofs.lemmas.List.{length-append}
-use Rattle.check_command.specs.Answers.{checked}
+use Rattle.ntb_top.specs.Checks.{checked}
 use Rattle.cluster_run.specs.stream.Streams.{StreamShown}
 use Rattle.command_reply.specs.Output.{Output, done, too_long}
 use Rattle.explore_command.specs.Answers.{ExploresTo}

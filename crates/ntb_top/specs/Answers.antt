@@ -2,7 +2,7 @@
 use Rattle.std.specs.Prelude.{◌≡◌, ℕ, Option, Some, None, List, length, nat_lt, MatchBool}
 use Rattle.step_kinds.specs.Limits.{most_script_bytes}
 use Rattle.step_kinds.specs.Runs.{LaneShown}
-use Rattle.check_command.specs.Answers.{IsCheckOf}
+use Rattle.ntb_top.specs.Checks.{IsCheckOf}
 use Rattle.cluster_run.specs.stream.Streams.{StreamShown}
 use Rattle.command_reply.specs.Output.{Output, too_long, usage}
 use Rattle.explore_command.specs.Answers.{IsExploreOf}

@@ -6,3 +6,4 @@ pub mod Ends
 pub mod Inputs
 pub mod Laws
 pub mod Runs
+pub mod Checks

@@ -9,9 +9,9 @@ ghost use Rattle.ntb_top.specs.Inputs.{HasReplied, HasWritten};
 ghost use Rattle.ntb_top.specs.Runs.{HasAnswered, HasRun};
 ghost use Rattle.ntb_top.specs.declared.command.Command.TheVariants.{Plain};
 
+use crate::check_reply;
 use crate::command::{PlainCommand, plain_of};
 use crate::input::{Input, Stop, read_input};
-use check_command::check_reply;
 use command_reply::{Reply, Status};
 use explore_command::explore_reply;
 use io_edges::{Sink, Source, WriteFault, write_all};

@@ -5,8 +5,8 @@ use Rattle.std.proofs.lemmas.List.Sums.{sum_by_push}
 use Rattle.step_kinds.specs.declared.names.Side.{Side}
 use Rattle.step_kinds.specs.declared.plan.PairPlan.{PairPlan}
 use Rattle.lane_model.specs.Lane.{chunks_in, count_from}
-use Rattle.plan_model.specs.Macros.{posts_in}
-use Rattle.plan_model.specs.Sizes.{agreed_version, sizes_of, pieces_in}
+use Rattle.pair_model.specs.Macros.{posts_in}
+use Rattle.pair_model.specs.Sizes.{agreed_version, sizes_of, pieces_in}
 
 -- Counting on by one number adds the number after the last.
 count_from-last : (from n : ℕ) → count_from from (suc n) ≡ count_from from n ++ (from + n) ∷ []

@@ -1,6 +1,6 @@
 -- The memory of a side: how large it is, and whether the windows of the peer fit there.
 use Rattle.std.specs.Prelude.{ℕ, ◌*◌, ◌≤◌}
-use Rattle.plan_model.specs.Plans.{side_plan}
+use Rattle.pair_model.specs.Plans.{side_plan}
 use Rattle.step_kinds.specs.Sides.{other_side}
 use Rattle.step_kinds.specs.declared.names.Side.{Side}
 use Rattle.step_kinds.specs.declared.plan.PairPlan.{PairPlan}

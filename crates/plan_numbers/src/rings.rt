@@ -1,15 +1,15 @@
 //! The rings of a side's queues.
 
 ghost use Rattle.std.specs.Prelude.{◌≡◌, ◌+◌, ◌<◌, ◌≤◌};
-ghost use Rattle.byte_model.specs.Addresses.{own_index_word};
-ghost use Rattle.plan_model.specs.DeclaredPlans.{IsPair};
-ghost use Rattle.plan_model.specs.Plans.{side_plan as side_plan_of};
-ghost use Rattle.plan_model.specs.Sizes.{layout_in, layout_of, layout_to};
+ghost use Rattle.pair_model.specs.Addresses.{own_index_word};
+ghost use Rattle.pair_model.specs.DeclaredPlans.{IsPair};
+ghost use Rattle.pair_model.specs.Plans.{side_plan as side_plan_of};
+ghost use Rattle.pair_model.specs.Sizes.{layout_in, layout_of, layout_to};
 ghost use Rattle.plan_numbers.specs.Memories.{WindowsFit, memory_size};
 ghost use Rattle.ring_geometry.specs.Geometry.{IsPlaced};
 
 use crate::sides::{header_bytes, own_address, side_plan};
-use plan_model::laws::each_queue_has_a_ring;
+use pair_model::laws::each_queue_has_a_ring;
 use ring_geometry::Geometry;
 use step_kinds::{PairPlan, Side};
 

@@ -1,11 +1,11 @@
 //! What a plan says to one side of its pair: its numbers and its memory, and how its writes are ordered.
 
 ghost use Rattle.std.specs.Prelude.{◌≡◌, ◌+◌, ◌*◌, ◌/◌, ◌%◌, ◌<◌, ◌≤◌, ℕ, if◌then◌else◌};
-ghost use Rattle.plan_model.specs.DeclaredPlans.{AreClasses, IsPair};
-ghost use Rattle.plan_model.specs.Orders.{class_of as order_class, classes_of as plan_classes, kind_of as order_kind};
-ghost use Rattle.plan_model.specs.Pads.{word};
-ghost use Rattle.plan_model.specs.Plans.{side_plan as side_plan_of};
-ghost use Rattle.plan_model.specs.Sizes.{agreed_version, header_bytes as bytes_of_header};
+ghost use Rattle.pair_model.specs.DeclaredPlans.{AreClasses, IsPair};
+ghost use Rattle.pair_model.specs.Orders.{class_of as order_class, classes_of as plan_classes, kind_of as order_kind};
+ghost use Rattle.pair_model.specs.Pads.{word};
+ghost use Rattle.pair_model.specs.Plans.{side_plan as side_plan_of};
+ghost use Rattle.pair_model.specs.Sizes.{agreed_version, header_bytes as bytes_of_header};
 ghost use Rattle.plan_numbers.specs.Memories.{memory_size};
 
 use order_rules::{RELAXED, STRICT};

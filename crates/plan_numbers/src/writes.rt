@@ -3,10 +3,10 @@
 ghost use Rattle.std.specs.Prelude.{◌≡◌, ◌<◌, ◌≤◌, ◌+◌, ◌^◌};
 ghost use Rattle.step_kinds.specs.Limits.{most_frame_bytes};
 ghost use Rattle.lane_model.specs.Lane.{chunks_in};
-ghost use Rattle.plan_model.specs.DeclaredPlans.{IsPair};
-ghost use Rattle.plan_model.specs.Macros.{posts_in};
-ghost use Rattle.plan_model.specs.Plans.{side_plan};
-ghost use Rattle.plan_model.specs.Sizes.{pieces_in};
+ghost use Rattle.pair_model.specs.DeclaredPlans.{IsPair};
+ghost use Rattle.pair_model.specs.Macros.{posts_in};
+ghost use Rattle.pair_model.specs.Plans.{side_plan};
+ghost use Rattle.pair_model.specs.Sizes.{pieces_in};
 
 use crate::rings::sending_ring;
 use crate::sides::speaks_five;

@@ -4,7 +4,7 @@ use Rattle.bridge_pair.specs.Bridge.{Bridge}
 use Rattle.frame_ring.specs.Calls.{BeginsFrame as PortBegins, begin_answer as port_begin_answer, look_answer as port_look_answer}
 use Rattle.frame_ring.specs.declared.RingLook.{RingLook}
 use Rattle.frame_ring.specs.declared.RingLook.TheVariants.{Ready as RingReady, Empty as RingEmpty, PeerDown as RingPeerDown, VerDiffers as RingVerDiffers, Long as RingLong, OutOfTurn as RingOutOfTurn}
-use Rattle.plan_model.specs.Link.{is_up}
+use Rattle.pair_model.specs.Link.{is_up}
 use Rattle.queue_pair.specs.Gates.{BeginsFrame, answer_of_begun, answer_of_look, answer_unless, is_joined, look_answer}
 use Rattle.queue_pair.specs.Queue.{QueueState}
 use Rattle.queue_pair.specs.declared.BeginAnswer.TheVariants.{Ok as IsBegun, LinkDown, NotReady, Closed}

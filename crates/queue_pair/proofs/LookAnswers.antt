@@ -1,7 +1,7 @@
 -- What a look leaves of a queue: the port where nothing is found, and the queue closed where a link-down entry is.
 use Rattle.std.proofs.Common.{◌≡◌, ◌∙◌, Bool, true, false, not, refl, ap, if◌then◌else◌}
 use Rattle.bridge_pair.specs.Bridge.{Bridge}
-use Rattle.byte_model.specs.Headers.{Found, NoEntry, ALinkDownEntry, AnotherVersion, TooManyBytes, AnEntry}
+use Rattle.pair_model.specs.Headers.{Found, NoEntry, ALinkDownEntry, AnotherVersion, TooManyBytes, AnEntry}
 use Rattle.frame_ring.specs.Port.{PortState, with_receiving}
 use Rattle.frame_ring.specs.Calls.{entry_found, look_found, found_seen, look_answer as port_look_answer, after_look as port_after_look}
 use Rattle.frame_ring.specs.declared.RingLook.{RingLook}

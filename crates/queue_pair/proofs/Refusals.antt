@@ -3,8 +3,8 @@ use Rattle.std.proofs.Common.{◌≡◌, ◌||◌, ℕ, Bool, true, false, not, 
 use Rattle.step_kinds.specs.declared.lanes.Begun.TheVariants.{Ok as BegunOk, TooLong as FrameTooLong, Busy as PortBusy, NoRoom as RingFull}
 use Rattle.frame_ring.specs.Calls.{free_seen, head_seen, index_word_seen, sizes_seen}
 use Rattle.frame_ring.specs.Port.{is_busy}
-use Rattle.plan_model.specs.Link.{is_up}
-use Rattle.plan_model.specs.Sizes.{pieces_in}
+use Rattle.pair_model.specs.Link.{is_up}
+use Rattle.pair_model.specs.Sizes.{pieces_in}
 use Rattle.queue_pair.specs.Gates.{answer_unless, is_joined}
 use Rattle.queue_pair.specs.Laws.{RefusesWhereBeginWould, is_refusal}
 use Rattle.queue_pair.specs.declared.BeginAnswer.TheVariants.{LinkDown, NotReady, Closed}

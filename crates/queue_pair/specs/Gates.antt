@@ -5,8 +5,8 @@ use Rattle.step_kinds.specs.declared.lanes.Begun.{Begun}
 use Rattle.step_kinds.specs.declared.lanes.Begun.TheVariants.{Ok as BegunOk, TooLong as FrameTooLong, Busy as PortBusy, NoRoom as RingFull}
 use Rattle.step_kinds.specs.declared.names.Side.{Side}
 use Rattle.bridge_regs.specs.Doorbell.{with_pending}
-use Rattle.plan_model.specs.Link.{is_up}
-use Rattle.plan_model.specs.Refusals.{Test, OfLink, OfJoined, OfClosed, in_begin_order, in_look_order}
+use Rattle.pair_model.specs.Link.{is_up}
+use Rattle.pair_model.specs.Refusals.{Test, OfLink, OfJoined, OfClosed, in_begin_order, in_look_order}
 use Rattle.bridge_pair.specs.Bridge.{Bridge, bells_of, book_of, with_bells}
 use Rattle.frame_ring.specs.Port.{PortState}
 use Rattle.frame_ring.specs.Calls.{begin_answer as port_begin_answer, after_begin as port_after_begin, down_answer, after_down, refuses_answer as port_refuses, look_answer as port_look_answer, after_look as port_after_look}

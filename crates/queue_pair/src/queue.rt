@@ -3,8 +3,8 @@
 ghost use Rattle.std.specs.Prelude.{◌≡◌, ◌↔◌, ◌+◌, ◌-◌, ◌<◌, ◌≤◌, true, IfOk, IsSome, IsTrue, OnErr, OnOk, length};
 ghost use Rattle.bridge_pair.specs.Bridge.{flight_of, pages_of, with_pages};
 ghost use Rattle.bridge_pair.specs.Pages.{PagesGrow};
-ghost use Rattle.plan_model.specs.DeclaredPlans.{IsPair};
-ghost use Rattle.plan_model.specs.Plans.{side_plan as side_plan_of};
+ghost use Rattle.pair_model.specs.DeclaredPlans.{IsPair};
+ghost use Rattle.pair_model.specs.Plans.{side_plan as side_plan_of};
 ghost use Rattle.queue_pair.specs.Gates.{after_irq, answer_of_begun as begun_answer, answer_of_look as answer_of_ring, irq_bits};
 ghost use Rattle.queue_pair.specs.declared.BeginAnswer.TheVariants.{Ok as IsBegun};
 ghost use Rattle.queue_pair.specs.declared.LookAnswer.TheVariants.{Ready};

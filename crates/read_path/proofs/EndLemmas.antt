@@ -4,7 +4,7 @@ use Rattle.std.proofs.lemmas.Grind.{common_steps}
 use Rattle.std.proofs.lemmas.List.Sums.{sum_by-append}
 use Rattle.std.proofs.lemmas.List.Elements.{All-append}
 use Rattle.host_memory.specs.Memory.{written, bytes_at}
-use Rattle.read_model.specs.InFlight.{Flying, Write, Request, Part, Last, parts_from, completions}
+use Rattle.read_path.specs.InFlight.{Flying, Write, Request, Part, Last, parts_from, completions}
 use Rattle.read_path.specs.Ends.{AreEnds, IsInRange, all_due, completions_due, completions_of, asks, end_seen, fresh_end, posts, promises, reached, without_place}
 use Rattle.read_path.specs.Flights.{FlightState, nothing_flying}
 use Rattle.read_path.specs.declared.end.End.{End}

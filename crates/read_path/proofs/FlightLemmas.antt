@@ -2,7 +2,7 @@
 use Rattle.std.proofs.Common.{◌≡◌, ℕ, zero, suc, ◌+◌, ◌<◌, Bool, true, false, ◌&&◌, Some, List, [], ◌∷◌, ◌++◌, length, map, take, drop, remove, slice_get, get_or, is_some, unwrap_or, refl, sym, ap, subst, ◌∙◌, All, add-one, arith}
 use Rattle.std.specs.List.{list_all, sum_by}
 use Rattle.std.proofs.Math.ListN.{get_or-map}
-use Rattle.read_model.specs.InFlight.{Flying, Part, parts_from}
+use Rattle.read_path.specs.InFlight.{Flying, Part, parts_from}
 use Rattle.read_path.specs.Flights.{flying_of}
 use Rattle.read_path.specs.declared.flight.InFlight.{InFlight}
 use Rattle.std.proofs.lemmas.List.{take-map, drop-map, map-append}

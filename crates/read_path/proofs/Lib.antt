@@ -1,3 +1,12 @@
 pub mod FlightLemmas
 pub mod EndLemmas
 pub mod PathLemmas
+pub mod WrongLog
+pub mod Ahead
+pub mod Holds
+pub mod SidesHold
+pub mod Landings
+pub mod StepsHold
+pub mod ReadsPush
+pub mod ReadNumbers
+pub mod NumbersInLogs

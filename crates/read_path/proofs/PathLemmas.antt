@@ -2,11 +2,11 @@
 use Rattle.std.proofs.Common.{◌≡◌, ℕ, Bool, true, false, Option, Some, None, List, slice_get, take, refl, sym, ap, ◌∙◌, if◌then◌else◌}
 use Rattle.step_kinds.specs.declared.names.Side.{Side}
 use Rattle.step_kinds.specs.declared.names.Side.TheVariants.{A, B}
-use Rattle.plan_model.specs.Link.{is_up}
-use Rattle.plan_model.specs.declared.LinkState.{LinkState}
-use Rattle.plan_model.specs.declared.LinkState.TheVariants.{Down, Up, Closing}
-use Rattle.read_model.specs.InFlight.{Flying, Write, Request, Part, Last, lands_after, may_pass_all}
-use Rattle.read_model.specs.Path.{PathState, after_land, taken}
+use Rattle.pair_model.specs.Link.{is_up}
+use Rattle.pair_model.specs.declared.LinkState.{LinkState}
+use Rattle.pair_model.specs.declared.LinkState.TheVariants.{Down, Up, Closing}
+use Rattle.read_path.specs.InFlight.{Flying, Write, Request, Part, Last, lands_after, may_pass_all}
+use Rattle.read_path.specs.Path.{PathState, after_land, taken}
 use Rattle.read_path.specs.Ends.{end_seen, from_after, reached, reached_by, to_after, without_place}
 use Rattle.read_path.specs.declared.end.End.{End}
 

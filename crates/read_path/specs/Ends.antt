@@ -1,8 +1,8 @@
 -- A side of a path, as the definitions see it, and what is kept of both.
 use Rattle.std.specs.Prelude.{◌≡◌, ℕ, ◌+◌, ◌-◌, ◌≤◌, ◌/◌, Bool, Option, Some, None, List, [], ◌∷◌, ◌++◌, All, length, replicate, remove, slice_get, sum_by, if◌then◌else◌}
 use Rattle.host_memory.specs.Memory.{ArePromised, written, bytes_at}
-use Rattle.read_model.specs.InFlight.{Flying, Write, Request, Part, Last, completion_bytes, completions, may_land}
-use Rattle.read_model.specs.Path.{PathState, SideState, memory_bytes, most_read_bytes}
+use Rattle.read_path.specs.InFlight.{Flying, Write, Request, Part, Last, completion_bytes, completions, may_land}
+use Rattle.read_path.specs.Path.{PathState, SideState, memory_bytes, most_read_bytes}
 use Rattle.read_path.specs.Flights.{FlightState}
 use Rattle.read_path.specs.declared.end.End.{End}
 use Rattle.read_path.specs.declared.path.Path.TheInside.{Inside}

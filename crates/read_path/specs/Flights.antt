@@ -1,7 +1,7 @@
 -- What a side has in flight, as the definitions see it.
 use Rattle.std.specs.Prelude.{ℕ, ◌+◌, ◌≤◌, List, [], length, map}
 use Rattle.std.specs.VecDeque.{deque_len, deque_capacity}
-use Rattle.read_model.specs.InFlight.{Flying, Write, Request, Part, Last}
+use Rattle.read_path.specs.InFlight.{Flying, Write, Request, Part, Last}
 use Rattle.read_path.specs.declared.flight.InFlight.{InFlight}
 use Rattle.read_path.specs.declared.flight.InFlight.TheVariants.{Write as HasWrite, Request as HasRequest, Part as HasPart, Last as HasLast}
 use Rattle.read_path.specs.declared.flight.Flight.TheInside.{Inside}

@@ -1,2 +1,9 @@
 pub mod Flights
 pub mod Ends
+pub mod InFlight
+pub mod Path
+pub mod PathLog
+pub mod Pushed
+pub mod Numbers
+pub mod Examples
+pub mod Laws

@@ -3,15 +3,15 @@
 ghost use Rattle.std.specs.Prelude.{◌≡◌, ◌+◌, ◌≤◌, length, IfOk, OnOk, OnErr, slice_get};
 ghost use Rattle.step_kinds.specs.Limits.{most_write_bytes};
 ghost use Rattle.host_memory.specs.Memory.{bytes_at};
-ghost use Rattle.read_model.specs.InFlight.{may_land};
-ghost use Rattle.read_model.specs.Path.{answer_for, landing_of, memory_bytes, most_read_bytes};
+ghost use Rattle.read_path.specs.InFlight.{may_land};
+ghost use Rattle.read_path.specs.Path.{answer_for, landing_of, memory_bytes, most_read_bytes};
 ghost use Rattle.read_path.specs.Flights.{flying_of};
 ghost use Rattle.read_path.specs.Ends.{AreEnds, IsEnd, IsInRange, asks, brings, completions_due, completions_of, end_seen, fresh_end, from_after, posts, promises, reached, stores, to_after};
 
+use crate::PathLand;
 use crate::flight::{Flight, InFlight};
+use crate::limits::{COMPLETION_BYTES, MEMORY_BYTES};
 use host_memory::Memory;
-use read_model::PathLand;
-use read_model::limits::{COMPLETION_BYTES, MEMORY_BYTES};
 use std::alloc::{AllocError, Global};
 use step_kinds::{Frame, InPlace, Items};
 

@@ -3,7 +3,7 @@
 ghost use Rattle.std.specs.Prelude.{◌≡◌, ◌+◌, ◌-◌, ◌<◌, ◌≤◌, [], ◌∷◌, ◌++◌, length, remove, slice_get, option_map, take, IfNone, OnOk, OnErr, OnSome};
 ghost use Rattle.std.specs.List.{list_all};
 ghost use Rattle.order_rules.specs.Transactions.{may_overtake};
-ghost use Rattle.read_model.specs.InFlight.{kind_of, may_land, parts_from};
+ghost use Rattle.read_path.specs.InFlight.{kind_of, may_land, parts_from};
 ghost use Rattle.read_path.specs.Flights.{flying_of, nothing_flying};
 
 use order_rules::{COMPLETION, READ_REQUEST, RELAXED, STRICT, full_table};

@@ -7,8 +7,12 @@
 #![tactic(auto)]
 
 mod end;
+pub mod examples;
 mod flight;
+pub mod laws;
+pub mod limits;
 mod path;
+pub mod steps;
 
 pub use path::Path;
-pub use read_model::{PathLand, PostAnswer, ReadAnswer};
+pub use steps::{PathAnswer, PathLand, PathStep, PostAnswer, ReadAnswer};

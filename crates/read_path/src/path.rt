@@ -3,12 +3,12 @@
 ghost use Rattle.std.specs.Prelude.{◌≡◌, ◌+◌, ◌≤◌, true, length, IfOk, OnOk, OnErr, alloc_error};
 ghost use Rattle.std.specs.Result.{result_err};
 ghost use Rattle.step_kinds.specs.Limits.{most_write_bytes};
-ghost use Rattle.plan_model.specs.Link.{is_up};
-ghost use Rattle.read_model.specs.Path.{after_cut, after_drop, after_land, after_post, after_read, after_relink, cut_refusal, drop_refusal, fresh_path, land_answer, memory_bytes, most_read_bytes, post_answer, read_answer, relink_refusal, shown};
+ghost use Rattle.pair_model.specs.Link.{is_up};
+ghost use Rattle.read_path.specs.Path.{after_cut, after_drop, after_land, after_post, after_read, after_relink, cut_refusal, drop_refusal, fresh_path, land_answer, memory_bytes, most_read_bytes, post_answer, read_answer, relink_refusal, shown};
 
 use crate::end::{End, ask, land_between};
+use crate::{PathLand, PostAnswer, ReadAnswer};
 use link_state::{Link, LinkRefusal, LinkState};
-use read_model::{PathLand, PostAnswer, ReadAnswer};
 use std::alloc::{AllocError, Global};
 use std::marker::Model;
 use step_kinds::{Frame, Side};
@@ -198,7 +198,7 @@ impl Path {
 }
 
 impl Model for Path {
-    ghost use Rattle.read_model.specs.Path.{PathState};
+    ghost use Rattle.read_path.specs.Path.{PathState};
     ghost use Rattle.read_path.specs.Ends.{IsPath, path_seen};
 
     ghost Value = { PathState };

@@ -1,7 +1,7 @@
 -- Lines of too many words.
 use Rattle.std.proofs.Common.{◌≡◌, ℕ, ◌≤◌, Err, List, [], ◌∷◌, length, refl, arith}
 use Rattle.script_words.specs.declared.fault.Cause.TheVariants.{UnknownWord}
-use Rattle.read_model.specs.Lines.{step_of}
+use Rattle.reads_command.specs.Lines.{step_of}
 
 -- A line of six words or more is no step of a text of reads, with the cause `UnknownWord`.
 pub step_long : (words : List (List ℕ)) → 6 ≤ length words → step_of words ≡ Err UnknownWord

@@ -5,10 +5,10 @@ use Rattle.std.specs.Option.{option_map_or}
 use Rattle.script_words.specs.Words.{lines_of, without_return}
 use Rattle.script_words.specs.Reads.{result_map}
 use Rattle.script_words.specs.declared.fault.Cause.{Cause}
-use Rattle.read_model.specs.Lines.{LineStep, before_more, go_on, line_gives, read_lines}
-use Rattle.read_model.specs.PathLog.{answer_to, after_step}
-use Rattle.read_model.specs.Report.{made_line, made_lines}
-use Rattle.read_model.specs.declared.PathStep.{PathStep}
+use Rattle.reads_command.specs.Lines.{LineStep, before_more, go_on, line_gives, read_lines}
+use Rattle.read_path.specs.PathLog.{answer_to, after_step}
+use Rattle.reads_command.specs.Report.{made_line, made_lines}
+use Rattle.read_path.specs.declared.steps.PathStep.{PathStep}
 use Rattle.reads_command.specs.Replies.{ReplyState, with_line}
 
 -- the lines of a text's answers, where the reply so far has some of them and these lines are left

@@ -3,9 +3,9 @@ use Rattle.std.specs.Prelude.{◌≡◌, ℕ, Result, Ok, Err, List, codes}
 use Rattle.command_reply.specs.Output.{Output, done, refused_at}
 use Rattle.command_reply.specs.Statuses.{number_of}
 use Rattle.command_reply.specs.declared.status.Status.TheVariants.{Done}
-use Rattle.read_model.specs.Lines.{LineStep, steps_of}
-use Rattle.read_model.specs.Pushed.{Pushed}
-use Rattle.read_model.specs.Report.{log_of_lines, reply_to, report_of}
+use Rattle.reads_command.specs.Lines.{LineStep, steps_of}
+use Rattle.read_path.specs.Pushed.{Pushed}
+use Rattle.reads_command.specs.Report.{log_of_lines, reply_to, report_of}
 
 -- the lines of the answers, or the first bad line
 abbrev pub output_of : Result (List ℕ) ℕ → Output

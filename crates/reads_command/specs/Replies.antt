@@ -1,12 +1,12 @@
 -- What the code owes of a text, and of a line of it.
 use Rattle.std.specs.Prelude.{◌≡◌, ℕ, ◌+◌, List, ◌++◌, Option, Some, None, Result, Ok, Err, IfOk}
 use Rattle.script_words.specs.declared.fault.Cause.{Cause}
-use Rattle.read_model.specs.Lines.{steps_of}
-use Rattle.read_model.specs.Path.{PathState}
-use Rattle.read_model.specs.PathLog.{answer_to, after_step}
-use Rattle.read_model.specs.Pushed.{Pushed}
-use Rattle.read_model.specs.Report.{made_line, log_of_lines}
-use Rattle.read_model.specs.declared.PathStep.{PathStep}
+use Rattle.reads_command.specs.Lines.{steps_of}
+use Rattle.read_path.specs.Path.{PathState}
+use Rattle.read_path.specs.PathLog.{answer_to, after_step}
+use Rattle.read_path.specs.Pushed.{Pushed}
+use Rattle.reads_command.specs.Report.{made_line, log_of_lines}
+use Rattle.read_path.specs.declared.steps.PathStep.{PathStep}
 use Rattle.reads_command.specs.declared.reply.Reply.{Reply}
 use Rattle.reads_command.specs.declared.reply.ReadsError.{ReadsError}
 use Rattle.reads_command.specs.declared.reply.ReadsError.TheVariants.{BadLine, OutOfMemory}

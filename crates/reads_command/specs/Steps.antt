@@ -1,10 +1,10 @@
 -- Which steps a path takes.
 use Rattle.std.specs.Prelude.{ℕ, ◌+◌, ◌≤◌, Option, Some, None, length}
 use Rattle.step_kinds.specs.Limits.{most_write_bytes}
-use Rattle.read_model.specs.Lines.{most_show_bytes}
-use Rattle.read_model.specs.Path.{memory_bytes, most_read_bytes}
-use Rattle.read_model.specs.declared.PathStep.{PathStep}
-use Rattle.read_model.specs.declared.PathStep.TheVariants.{Write, Read, Land, Show, Break, DropDone, Relink}
+use Rattle.reads_command.specs.Lines.{most_show_bytes}
+use Rattle.read_path.specs.Path.{memory_bytes, most_read_bytes}
+use Rattle.read_path.specs.declared.steps.PathStep.{PathStep}
+use Rattle.read_path.specs.declared.steps.PathStep.TheVariants.{Write, Read, Land, Show, Break, DropDone, Relink}
 
 -- a byte at least and so many at most, and all in a side's memory
 pub record IsRange (most at len : ℕ) : Type 0 where

@@ -2,16 +2,15 @@
 
 ghost use Rattle.std.specs.Prelude.{◌≡◌, ◌++◌, IfOk, OnOk};
 ghost use Rattle.std.specs.Fmt.{decimal};
-ghost use Rattle.read_model.specs.PathLog.{after_step, answer_to};
-ghost use Rattle.read_model.specs.Report.{made_line};
-ghost use Rattle.read_model.specs.Texts.{answer_text, land_text, link_text, post_text, read_text, refusal_text};
+ghost use Rattle.read_path.specs.PathLog.{after_step, answer_to};
+ghost use Rattle.reads_command.specs.Report.{made_line};
+ghost use Rattle.reads_command.specs.Texts.{answer_text, land_text, link_text, post_text, read_text, refusal_text};
 ghost use Rattle.report_text.specs.Texts.{with_one, with_two};
 ghost use Rattle.reads_command.specs.Steps.{Fits};
 
 use itoa::Buffer;
-use plan_model::LinkRefusal;
-use read_model::{PathAnswer, PathLand, PathStep, PostAnswer, ReadAnswer};
-use read_path::Path;
+use pair_model::LinkRefusal;
+use read_path::{Path, PathAnswer, PathLand, PathStep, PostAnswer, ReadAnswer};
 use report_text::append::{push_hex, push_numbers, push_word};
 use std::alloc::AllocError;
 

@@ -3,6 +3,7 @@
 
 mod answers;
 mod command;
+pub mod examples;
 mod lines;
 mod reply;
 

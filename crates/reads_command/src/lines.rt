@@ -4,11 +4,11 @@
 ghost use Rattle.std.specs.Prelude.{◌≡◌, ◌≢◌, IfOk, IsSome, map};
 ghost use Rattle.step_kinds.specs.Limits.{most_steps};
 ghost use Rattle.script_words.specs.Reads.{Reads};
-ghost use Rattle.read_model.specs.Lines as rules;
+ghost use Rattle.reads_command.specs.Lines as rules;
 ghost use Rattle.reads_command.specs.Steps.{Fits, FitsIfThere};
 
-use read_model::PathStep;
-use read_model::limits::{MEMORY_BYTES, MOST_READ_BYTES, MOST_SHOW_BYTES};
+use read_path::PathStep;
+use read_path::limits::{MEMORY_BYTES, MOST_READ_BYTES, MOST_SHOW_BYTES};
 use script_text::lines::{is_skipped, read_words};
 use script_words::words::{read_bytes, read_number, read_number_between, read_side};
 use script_words::{Cause, ReadError};

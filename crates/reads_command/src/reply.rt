@@ -3,14 +3,14 @@
 ghost use Rattle.std.specs.Prelude.{◌≡◌, ◌≤◌, ◌++◌, length, OnOk};
 ghost use Rattle.step_kinds.specs.Limits.{most_script_bytes, most_steps};
 ghost use Rattle.script_words.specs.Reads.{result_map};
-ghost use Rattle.read_model.specs.Lines.{line_gives};
-ghost use Rattle.read_model.specs.Report.{reply_to};
+ghost use Rattle.reads_command.specs.Lines.{line_gives};
+ghost use Rattle.reads_command.specs.Report.{reply_to};
 ghost use Rattle.reads_command.specs.Replies.{Adds, Replies, TextPushed, reply_seen};
 
 use crate::answers::{make_step, push_line};
 use crate::lines::read_line;
-use read_laws::laws::each_read_has_pushed;
 use read_path::Path;
+use read_path::laws::each_read_has_pushed;
 use report_text::append::push_word;
 use script_text::lines::{cut, without_return};
 use script_words::ReadError;

@@ -3,16 +3,16 @@ use Rattle.std.proofs.Common.{◌≡◌, ℕ, zero, suc, ◌+◌, ◌<◌, List,
 use Rattle.std.specs.List.{All}
 use Rattle.std.proofs.lemmas.List.{get_or-append-add, get_or_append_left, length-append, map-append}
 use Rattle.std.proofs.lemmas.List.Elements.{All-weaker}
-use Rattle.plan_model.specs.PlanParts.{declared_part}
+use Rattle.pair_model.specs.PlanParts.{declared_part}
 use Rattle.step_kinds.specs.declared.names.Side.{Side}
 use Rattle.step_kinds.specs.declared.plan.Line.{Line}
 use Rattle.step_kinds.specs.declared.plan.Plan.{Plan}
 use Rattle.step_kinds.specs.declared.steps.Step.{Step}
 use Rattle.step_kinds.specs.declared.steps.Step.TheVariants.{Ack, Clear, Copy, Look}
 use Rattle.step_list.specs.Compact.{lines_with}
-use Rattle.plan_model.specs.Switches.{IsMakeable}
-use Rattle.plan_model.specs.Macros.{receive}
-use Rattle.plan_model.proofs.Facade.{makeable_by_other}
+use Rattle.pair_model.specs.Switches.{IsMakeable}
+use Rattle.pair_model.specs.Macros.{receive}
+use Rattle.pair_model.proofs.Facade.{makeable_by_other}
 
 -- a cluster that keeps a plan's pairs and devices may make the steps that the plan permits
 pub steps_permitted : (plan kept : Plan) (lines : List Line) → kept ≡ declared_part plan → All (λ line. IsMakeable plan line.step) lines → All (λ line. IsMakeable kept line.step) lines

@@ -2,12 +2,12 @@
 use Rattle.std.proofs.Common.{◌≡◌, ◌∙◌, ℕ, zero, suc, ◌<◌, List, [], ◌∷◌, ◌++◌, append-nil, append_assoc, Result, Ok, Err, IfOk, OnOk, length, replicate, sym, ap, subst, arith, Global, Vec}
 use Rattle.std.specs.List.{All, flat_map, fold}
 use Rattle.std.proofs.lemmas.List.{length-map}
-use Rattle.plan_model.specs.PlanParts.{declared_part}
+use Rattle.pair_model.specs.PlanParts.{declared_part}
 use Rattle.step_kinds.specs.declared.plan.Counters.{Counters}
 use Rattle.step_kinds.specs.declared.plan.Plan.{Plan}
 use Rattle.step_kinds.specs.declared.names.Side.{Side}
 use Rattle.step_kinds.specs.declared.names.Side.TheVariants.{A, B}
-use Rattle.plan_model.specs.DeclaredPlans.{IsQueueOf}
+use Rattle.pair_model.specs.DeclaredPlans.{IsQueueOf}
 use Rattle.traffic_plan.specs.Load.{load_of}
 use Rattle.cluster_core.specs.Cluster.{ClusterState, plan_held}
 use Rattle.cluster_core.specs.LogClauses.{HasMade}

@@ -5,15 +5,15 @@ use Rattle.std.proofs.lemmas.List.{length-append, length-map, map-append, replic
 use Rattle.std.proofs.lemmas.List.Concat.{flat_map-append, get_or-flat_map}
 use Rattle.std.proofs.lemmas.List.Folds.{length-flat_map-take}
 use Rattle.std.proofs.lemmas.List.Sums.{fold-append}
-use Rattle.plan_model.specs.PlanParts.{steps_in}
+use Rattle.pair_model.specs.PlanParts.{steps_in}
 use Rattle.step_kinds.specs.declared.plan.Line.{Line}
 use Rattle.step_kinds.specs.declared.plan.Plan.{Plan}
 use Rattle.step_kinds.specs.declared.steps.Answer.{Answer}
 use Rattle.step_kinds.specs.declared.steps.Step.{Step}
 use Rattle.ledger_model.specs.Log.{Answered, Memories}
-use Rattle.memory_model.specs.Memory.{memory_of}
-use Rattle.switch_log.specs.Network.{Network, items_from, new_network, next_network}
-use Rattle.switch_log.specs.Origins.{bytes_kept}
+use Rattle.ledger_model.specs.Memory.{memory_of}
+use Rattle.ledger_model.specs.Network.{Network, items_from, new_network, next_network}
+use Rattle.ledger_model.specs.Origins.{bytes_kept}
 use Rattle.cluster_core.specs.Cluster.{ClusterState, plan_held}
 use Rattle.cluster_core.specs.LogClauses.{HasMade, IsAnswered, log_after}
 use Rattle.step_list.specs.StepLists.{all_lines, lines_in}

@@ -7,11 +7,11 @@ use Rattle.step_kinds.specs.declared.plan.Plan.{Plan}
 use Rattle.step_kinds.specs.declared.steps.Step.{Step}
 use Rattle.ledger_laws.specs.Laws.{IsInOrder, IsOrdinaryPair, entries_needed, is_again, is_link_down, lane_begun_by, made_on, needs_link, refused_earlier, steps_on, times_of}
 use Rattle.ledger_model.specs.Log.{Answered, delivered, room_in, up_at}
-use Rattle.memory_model.specs.Memory.{memory_of}
-use Rattle.switch_log.specs.Log.{on_bridges, switch_log}
-use Rattle.switch_log.specs.Paths.{path_frames}
-use Rattle.switch_laws.specs.Laws.{HasNoPort, bridge_ledger}
-use Rattle.switch_laws.specs.Paths.{AreOrdinary, KeepsOrder}
+use Rattle.ledger_model.specs.Memory.{memory_of}
+use Rattle.ledger_model.specs.NetworkLog.{on_bridges, switch_log}
+use Rattle.ledger_model.specs.Paths.{path_frames}
+use Rattle.ledger_laws.specs.NetworkLaws.{HasNoPort, bridge_ledger}
+use Rattle.ledger_laws.specs.Paths.{AreOrdinary, KeepsOrder}
 use Rattle.replay_command.specs.Replays.{log_of_plan, steps_of}
 
 -- the log of the first steps of a plan

@@ -1,15 +1,15 @@
 -- What the steps of a replay say of a cluster, and of the counts that they gather from it.
 use Rattle.std.specs.Prelude.{◌≡◌, ℕ, ◌+◌, ◌-◌, ◌^◌, ◌≤◌, ◌==◌, Bool, not, ◌&&◌, List, ◌++◌, if◌then◌else◌, map, min}
 use Rattle.std.specs.List.{filter, fold, range_with_len}
-use Rattle.plan_model.specs.PlanParts.{declared_part, steps_in}
+use Rattle.pair_model.specs.PlanParts.{declared_part, steps_in}
 use Rattle.step_kinds.specs.Sides.{other_side}
 use Rattle.step_kinds.specs.declared.names.LaneName.{LaneName}
 use Rattle.step_kinds.specs.declared.names.Side.{Side}
 use Rattle.step_kinds.specs.declared.plan.Line.{Line}
 use Rattle.step_kinds.specs.declared.plan.Plan.{Plan}
 use Rattle.step_kinds.specs.declared.steps.Step.{Step}
-use Rattle.plan_model.specs.DeclaredPlans.{IsPairOf, IsQueueOf}
-use Rattle.plan_model.specs.Plans.{pair_plan}
+use Rattle.pair_model.specs.DeclaredPlans.{IsPairOf, IsQueueOf}
+use Rattle.pair_model.specs.Plans.{pair_plan}
 use Rattle.ledger_model.specs.Log.{Answered}
 use Rattle.cluster_core.specs.Cluster.{ClusterState, plan_held}
 use Rattle.cluster_core.specs.LogClauses.{HasMade, log_after}

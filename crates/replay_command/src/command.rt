@@ -2,7 +2,7 @@
 
 ghost use Rattle.std.specs.Prelude.{◌≡◌, ◌≤◌, IfOk, length};
 ghost use Rattle.command_reply.specs.Output.{done};
-ghost use Rattle.plan_model.specs.TrafficPlans.{IsWhole};
+ghost use Rattle.pair_model.specs.TrafficPlans.{IsWhole};
 ghost use Rattle.script_plan.specs.Scripts.{plan_in};
 ghost use Rattle.step_kinds.specs.Limits.{most_script_bytes};
 ghost use Rattle.traffic_plan.specs.Load.{most_load_frames};

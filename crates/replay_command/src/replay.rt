@@ -2,7 +2,7 @@
 
 ghost use Rattle.std.specs.Prelude.{◌≡◌, ◌∷◌, ◌++◌, [], IfOk, OnOk};
 ghost use Rattle.std.specs.List.{flat_map};
-ghost use Rattle.plan_model.specs.TrafficPlans.{IsWhole};
+ghost use Rattle.pair_model.specs.TrafficPlans.{IsWhole};
 ghost use Rattle.script_plan.specs.Scripts.{plan_in};
 ghost use Rattle.cluster_core.specs.Cluster.{plan_held};
 ghost use Rattle.report_text.specs.Report.{answer_line, ending};

@@ -4,8 +4,8 @@ ghost use Rattle.std.specs.Prelude.{◌≡◌, ◌∷◌, [], List, replicate, f
 ghost use Rattle.std.specs.List.{All, fold};
 ghost use Rattle.step_kinds.specs.declared.plan.Line.{Line};
 ghost use Rattle.step_kinds.specs.declared.plan.Plan.{Plan};
-ghost use Rattle.plan_model.specs.Switches.{IsMakeable};
-ghost use Rattle.plan_model.specs.Macros.{receive};
+ghost use Rattle.pair_model.specs.Switches.{IsMakeable};
+ghost use Rattle.pair_model.specs.Macros.{receive};
 ghost use Rattle.step_list.specs.Compact.{lines_with, step_again};
 ghost use Rattle.step_list.specs.StepLists.{lines_in};
 ghost use Rattle.cluster_core.specs.Cluster.{plan_held};

@@ -12,7 +12,7 @@ use Rattle.step_kinds.specs.declared.plan.LineAnswer.{LineAnswer}
 use Rattle.step_kinds.specs.declared.plan.PairPlan.{PairPlan}
 use Rattle.step_kinds.specs.declared.plan.Plan.{Plan}
 use Rattle.step_kinds.specs.declared.steps.Step.{Step}
-use Rattle.plan_model.specs.Plans.{no_pair}
+use Rattle.pair_model.specs.Plans.{no_pair}
 use Rattle.report_text.specs.Texts.{answer_text, frame_text, numbers_text}
 use Rattle.report_text.specs.declared.whole.LaneCount.{LaneCount}
 

@@ -8,7 +8,7 @@ use Rattle.step_kinds.specs.declared.plan.Traffic.{Traffic}
 use Rattle.step_kinds.specs.declared.plan.Traffic.TheVariants.{Send}
 use Rattle.lane_model.specs.Lane.{count_from}
 use Rattle.script_words.specs.Compact.{flood_of}
-use Rattle.plan_model.specs.TrafficPlans.{frames_in, bytes_in}
+use Rattle.pair_model.specs.TrafficPlans.{frames_in, bytes_in}
 use Rattle.script_words.specs.TrafficLines.{flood_frame}
 
 -- The n+1 consecutive numbers from a start are the first n and then the start plus n.

@@ -13,9 +13,9 @@ use Rattle.step_kinds.specs.declared.plan.SwitchPlan.{SwitchPlan}
 use Rattle.step_kinds.specs.declared.plan.Plan.{Plan}
 use Rattle.step_kinds.specs.declared.plan.Traffic.{Traffic}
 use Rattle.step_kinds.specs.declared.steps.Step.{Step}
-use Rattle.plan_model.specs.DeclaredPlans.{IsPair, IsDevice, IsQueueOf, AreClasses}
-use Rattle.plan_model.specs.Plans.{side_plan, pair_plan, no_pair}
-use Rattle.plan_model.specs.Switches.{IsSwitch}
+use Rattle.pair_model.specs.DeclaredPlans.{IsPair, IsDevice, IsQueueOf, AreClasses}
+use Rattle.pair_model.specs.Plans.{side_plan, pair_plan, no_pair}
+use Rattle.pair_model.specs.Switches.{IsSwitch}
 use Rattle.script_words.specs.Before.{Before, with_class}
 use Rattle.step_list.specs.Compact.{lines_with}
 use Rattle.script_words.specs.declared.parts.PairHosts.{PairHosts}

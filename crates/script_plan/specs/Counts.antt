@@ -2,7 +2,7 @@
 use Rattle.std.specs.Prelude.{◌≡◌, ℕ, ◌<◌, ◌≤◌, List, map, sum, count_by, slice_index}
 use Rattle.step_kinds.specs.Limits.{most_traffic_frames, most_traffic_bytes, most_breaks}
 use Rattle.step_kinds.specs.declared.plan.Traffic.{Traffic}
-use Rattle.plan_model.specs.TrafficPlans.{frames_in, bytes_in, is_break_of}
+use Rattle.pair_model.specs.TrafficPlans.{frames_in, bytes_in, is_break_of}
 
 -- how many frames, how many bytes of them, and how many link losses of each pair
 pub record TrafficCounted (traffic : List Traffic) (frames bytes : ℕ) (breaks : List ℕ) : Type 0 where

@@ -2,9 +2,9 @@
 use Rattle.std.specs.Prelude.{◌≡◌, ℕ, ◌+◌, ◌*◌, ◌<◌, ◌≤◌, false, length, map, sum, count_by}
 use Rattle.std.specs.List.{All}
 use Rattle.step_kinds.specs.Limits.{most_hosts, most_pairs, most_devices, most_switches, most_steps, most_frame_bytes, most_traffic_frames, most_traffic_bytes, most_breaks, IsClass}
-use Rattle.plan_model.specs.DeclaredPlans.{IsPair, IsDevice, IsQueueOf}
-use Rattle.plan_model.specs.Switches.{IsSwitch}
-use Rattle.plan_model.specs.TrafficPlans.{frames_in, bytes_in, is_break_of}
+use Rattle.pair_model.specs.DeclaredPlans.{IsPair, IsDevice, IsQueueOf}
+use Rattle.pair_model.specs.Switches.{IsSwitch}
+use Rattle.pair_model.specs.TrafficPlans.{frames_in, bytes_in, is_break_of}
 use Rattle.script_words.specs.Before.{Before, has_name, pair_names, dev_names, switch_names}
 use Rattle.script_words.specs.declared.line_gives.Given.{Given}
 use Rattle.script_words.specs.declared.line_gives.Given.TheVariants.{Nothing, Host, Pair, Device, Class, Switch, StepsBegin, TrafficBegins, Frame, Flood, Break}

@@ -1,7 +1,7 @@
 //! The pairs that are declared so far.
 
 ghost use Rattle.std.specs.Prelude.{◌≡◌, ◌<◌, length, slice_set, slice_index_or};
-ghost use Rattle.plan_model.specs.Plans.{no_pair};
+ghost use Rattle.pair_model.specs.Plans.{no_pair};
 ghost use Rattle.script_words.specs.Before.{with_class};
 
 use crate::by_name::{Declared, Named};

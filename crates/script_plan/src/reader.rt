@@ -35,9 +35,9 @@ pub struct Reader {
 impl Reader {
     ghost use Rattle.script_words.specs.Before.{Before, APair, ADevice, AClass, ASwitch, MoreSteps, nothing_before, with_given, has_name, pair_names, dev_names, switch_names};
     ghost use Rattle.step_kinds.specs.Limits.{most_pairs, most_devices, most_switches, most_steps, IsClass};
-    ghost use Rattle.plan_model.specs.DeclaredPlans.{IsPair, IsDevice, IsQueueOf};
-    ghost use Rattle.plan_model.specs.Plans.{pair_plan, dev_plan, switch_plan};
-    ghost use Rattle.plan_model.specs.Switches.{IsSwitch};
+    ghost use Rattle.pair_model.specs.DeclaredPlans.{IsPair, IsDevice, IsQueueOf};
+    ghost use Rattle.pair_model.specs.Plans.{pair_plan, dev_plan, switch_plan};
+    ghost use Rattle.pair_model.specs.Switches.{IsSwitch};
     ghost use Rattle.script_words.specs.Ports.{host_of, is_port};
     ghost use Rattle.script_words.specs.Compact.{given_of};
     ghost use Rattle.step_list.specs.Compact.{steps_of};

@@ -4,7 +4,7 @@ ghost use Rattle.std.specs.Prelude.{◌≡◌, ◌∷◌, [], ◌++◌, ◌+◌,
 ghost use Rattle.step_kinds.specs.Limits.{most_frame_bytes, most_traffic_frames, most_traffic_bytes, most_breaks};
 ghost use Rattle.step_kinds.specs.declared.plan.Traffic.TheVariants.{Send, Break};
 ghost use Rattle.script_words.specs.Compact.{flood_of};
-ghost use Rattle.plan_model.specs.TrafficPlans.{frames_in, bytes_in, is_break_of};
+ghost use Rattle.pair_model.specs.TrafficPlans.{frames_in, bytes_in, is_break_of};
 ghost use Rattle.script_words.specs.TrafficLines.{flood_frame};
 
 use std::alloc::{AllocError, Global};

@@ -4,7 +4,7 @@ use Rattle.std.proofs.lemmas.Bool.{and_parts, leb-true, ltb-false, not-false}
 use Rattle.std.specs.List.{AllPairs, list_any, list_all}
 use Rattle.std.specs.Str.{bytes_eq}
 use Rattle.step_kinds.specs.Limits.{most_hosts, most_pairs, most_devices, most_switches, most_threshold, least_ports, most_ports, IsPorts}
-use Rattle.plan_model.specs.Plans.{ports_in}
+use Rattle.pair_model.specs.Plans.{ports_in}
 use Rattle.pair_settings.specs.Settings.{same_setting, range_of, in_range, goes_together, pair_with}
 use Rattle.pair_settings.specs.declared.settings.Setting.{Setting}
 use Rattle.script_words.specs.Before.{Before, Given, Host, APair, ADevice, AClass, ASwitch, StepsBegin, TrafficBegins, pair_names, dev_names, switch_names}

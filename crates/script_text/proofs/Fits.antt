@@ -8,10 +8,10 @@ use Rattle.step_kinds.specs.declared.plan.DevPlan.{DevPlan}
 use Rattle.step_kinds.specs.declared.plan.SwitchPlan.{SwitchPlan}
 use Rattle.step_kinds.specs.declared.plan.Traffic.{Traffic}
 use Rattle.step_kinds.specs.declared.steps.Step.{Step}
-use Rattle.plan_model.specs.DeclaredPlans.{IsPair, IsDevice, IsQueueOf}
-use Rattle.plan_model.specs.Plans.{ports_in}
-use Rattle.plan_model.specs.Switches.{IsMakeable, IsSwitch}
-use Rattle.plan_model.specs.TrafficPlans.{frames_in, bytes_in, is_break_of, IsTraffic}
+use Rattle.pair_model.specs.DeclaredPlans.{IsPair, IsDevice, IsQueueOf}
+use Rattle.pair_model.specs.Plans.{ports_in}
+use Rattle.pair_model.specs.Switches.{IsMakeable, IsSwitch}
+use Rattle.pair_model.specs.TrafficPlans.{frames_in, bytes_in, is_break_of, IsTraffic}
 use Rattle.script_words.specs.Before.{Before, Given, Nothing, Host, APair, ADevice, AClass, ASwitch, StepsBegin, TrafficBegins, MoreSteps, MoreTraffic, has_name, pair_names, dev_names, switch_names}
 use Rattle.script_words.specs.Declarations.{sits_on}
 use Rattle.script_words.specs.declared.parts.Part.TheVariants.{Declarations}

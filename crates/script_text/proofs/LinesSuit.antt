@@ -7,9 +7,9 @@ use Rattle.step_kinds.specs.Limits.{most_breaks}
 use Rattle.step_kinds.specs.declared.names.LaneName.{LaneName}
 use Rattle.step_kinds.specs.declared.plan.Traffic.TheVariants.{Send, Break as LinkLoss}
 use Rattle.lane_model.specs.Lane.{count_from}
-use Rattle.plan_model.specs.Plans.{pair_plan}
-use Rattle.plan_model.specs.Sizes.{sizes_of}
-use Rattle.plan_model.specs.TrafficPlans.{is_break_of, IsTraffic}
+use Rattle.pair_model.specs.Plans.{pair_plan}
+use Rattle.pair_model.specs.Sizes.{sizes_of}
+use Rattle.pair_model.specs.TrafficPlans.{is_break_of, IsTraffic}
 use Rattle.script_words.specs.Before.{Before}
 use Rattle.script_words.specs.Compact.{given_of, flood_of}
 use Rattle.script_words.specs.TrafficLines.{flood_frame}

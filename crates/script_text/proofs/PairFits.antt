@@ -8,7 +8,7 @@ use Rattle.step_kinds.specs.Sides.{other_side}
 use Rattle.step_kinds.specs.declared.names.Side.{Side}
 use Rattle.step_kinds.specs.declared.names.Side.TheVariants.{A, B}
 use Rattle.step_kinds.specs.declared.plan.PairPlan.{PairPlan}
-use Rattle.plan_model.specs.DeclaredPlans.{IsSide, IsPair, Agree, SizesFit}
+use Rattle.pair_model.specs.DeclaredPlans.{IsSide, IsPair, Agree, SizesFit}
 use Rattle.pair_settings.specs.Settings.{same_key, same_scope, is_within, is_stepped, mtu_range, key_range, in_range, number_at, side_number, default_version, default_queues, default_windows, default_size, size_of, side_with, mtu_in, sizes_fit, agrees, has_room_for_header, goes_together, pair_with}
 use Rattle.pair_settings.specs.declared.settings.Range.{Range}
 use Rattle.pair_settings.specs.declared.settings.SideKey.{SideKey}

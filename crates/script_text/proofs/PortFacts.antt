@@ -7,7 +7,7 @@ use Rattle.std.proofs.lemmas.List.Folds.{Any-from_list_any}
 use Rattle.std.proofs.lemmas.List.Quantifiers.{all_pairs_push}
 use Rattle.std.specs.List.{All, AllPairs, Contains, list_any}
 use Rattle.step_kinds.specs.declared.plan.SwitchPlan.{SwitchPlan}
-use Rattle.plan_model.specs.Plans.{ports_in}
+use Rattle.pair_model.specs.Plans.{ports_in}
 use Rattle.script_words.specs.Before.{Before}
 use Rattle.script_words.specs.Ports.{is_among, is_port, port_place, with_port, ports_from}
 use Rattle.script_words.specs.Tests.{fault_at}

@@ -11,11 +11,11 @@ use Rattle.step_kinds.specs.declared.plan.DevPlan.{DevPlan}
 use Rattle.step_kinds.specs.declared.plan.Plan.{Plan}
 use Rattle.step_kinds.specs.declared.steps.Step.{Step}
 use Rattle.step_kinds.specs.declared.steps.Step.TheVariants.{Begin, Xbegin, Post, Look, Copy, Clear, Ack, Wake, Spad, Poke, ShowMem, ShowPad, Xnext}
-use Rattle.plan_model.specs.DeclaredPlans.{IsQueueOf, IsDevice, IsPermitted, IsFrame, IsPayload}
-use Rattle.plan_model.specs.Ethernet.{ethernet_header}
-use Rattle.plan_model.specs.Macros.{receive, send, posts_in}
-use Rattle.plan_model.specs.Plans.{side_plan, pair_plan, dev_plan, switch_plan, port_device, no_dev, no_switch}
-use Rattle.plan_model.specs.Switches.{IsMakeable, IsPortOn, IsSwitch}
+use Rattle.pair_model.specs.DeclaredPlans.{IsQueueOf, IsDevice, IsPermitted, IsFrame, IsPayload}
+use Rattle.pair_model.specs.Ethernet.{ethernet_header}
+use Rattle.pair_model.specs.Macros.{receive, send, posts_in}
+use Rattle.pair_model.specs.Plans.{side_plan, pair_plan, dev_plan, switch_plan, port_device, no_dev, no_switch}
+use Rattle.pair_model.specs.Switches.{IsMakeable, IsPortOn, IsSwitch}
 use Rattle.script_words.specs.Before.{Before, MoreSteps, TrafficBegins}
 use Rattle.script_words.specs.StepLines as rules
 use Rattle.script_words.specs.Ports.{is_port}

@@ -13,10 +13,10 @@ use Rattle.step_kinds.specs.declared.plan.PairPlan.{PairPlan}
 use Rattle.step_kinds.specs.declared.plan.Traffic.{Traffic}
 use Rattle.step_kinds.specs.declared.plan.Traffic.TheVariants.{Send, Break}
 use Rattle.lane_model.specs.Lane.{count_from}
-use Rattle.plan_model.specs.DeclaredPlans.{Agree}
-use Rattle.plan_model.specs.Plans.{side_plan, pair_plan}
-use Rattle.plan_model.specs.Sizes.{sizes_of}
-use Rattle.plan_model.specs.TrafficPlans.{frames_in, bytes_in, is_break_of, MayHaveTraffic, IsTrafficLane, IsTraffic}
+use Rattle.pair_model.specs.DeclaredPlans.{Agree}
+use Rattle.pair_model.specs.Plans.{side_plan, pair_plan}
+use Rattle.pair_model.specs.Sizes.{sizes_of}
+use Rattle.pair_model.specs.TrafficPlans.{frames_in, bytes_in, is_break_of, MayHaveTraffic, IsTrafficLane, IsTraffic}
 use Rattle.pair_settings.specs.Settings.{agrees}
 use Rattle.script_words.specs.Before.{Before, MoreTraffic}
 use Rattle.script_words.specs.Tests.{unknown_line, whole}

@@ -18,11 +18,11 @@ use Rattle.step_kinds.specs.declared.plan.Plan.{Plan}
 use Rattle.step_kinds.specs.declared.plan.Traffic.{Traffic}
 use Rattle.step_kinds.specs.declared.plan.Traffic.TheVariants.{Send, Break as LinkLoss}
 use Rattle.step_kinds.specs.declared.steps.Step.{Step}
-use Rattle.plan_model.specs.DeclaredPlans.{IsPair, IsDevice, IsDeclared, SameQueue}
-use Rattle.plan_model.proofs.Facade.{with_lists, queue_of_other, switches_of_other, makeable_by_other}
-use Rattle.plan_model.specs.Plans.{pair_plan, dev_plan, ports_in, no_pair, no_dev}
-use Rattle.plan_model.specs.Switches.{AreSwitches, IsMakeable, IsSwitch}
-use Rattle.plan_model.specs.TrafficPlans.{frames_in, bytes_in, is_break_of, IsTraffic, IsWhole}
+use Rattle.pair_model.specs.DeclaredPlans.{IsPair, IsDevice, IsDeclared, SameQueue}
+use Rattle.pair_model.proofs.Facade.{with_lists, queue_of_other, switches_of_other, makeable_by_other}
+use Rattle.pair_model.specs.Plans.{pair_plan, dev_plan, ports_in, no_pair, no_dev}
+use Rattle.pair_model.specs.Switches.{AreSwitches, IsMakeable, IsSwitch}
+use Rattle.pair_model.specs.TrafficPlans.{frames_in, bytes_in, is_break_of, IsTraffic, IsWhole}
 use Rattle.script_words.specs.Before.{Before, nothing_before, with_given, with_class, Given, Nothing, Host, APair, ADevice, AClass, ASwitch, StepsBegin, TrafficBegins, MoreSteps, MoreTraffic}
 use Rattle.script_words.specs.Declarations.{sits_on}
 use Rattle.script_words.specs.Tests.{whole}

@@ -9,8 +9,8 @@ use Rattle.hex.specs.Hex.{IsBytes, decode_of}
 use Rattle.hex.specs.declared.error.FromHexError.{FromHexError}
 use Rattle.hex.proofs.HexLemmas.{decode_of-ok}
 use Rattle.step_kinds.specs.declared.names.Side.{Side}
-use Rattle.plan_model.specs.DeclaredPlans.{IsQueueOf}
-use Rattle.plan_model.specs.Plans.{side_plan, pair_plan}
+use Rattle.pair_model.specs.DeclaredPlans.{IsQueueOf}
+use Rattle.pair_model.specs.Plans.{side_plan, pair_plan}
 use Rattle.script_words.specs.Before.{Before, number_named, has_name, pair_names, dev_names, switch_names, pair_word, dev_word, switch_word, queue_word, named_side, named_queue}
 use Rattle.script_words.specs.Declarations.{new_name}
 use Rattle.script_words.specs.Tests.{found_or, at}

@@ -1,7 +1,7 @@
 -- Laws of scripts.
 use Rattle.std.specs.Prelude.{◌≡◌, ℕ, ◌-◌, ◌≤◌, ◌==◌, List, Ok, Err, length, take, count_by, slice_index}
 use Rattle.step_kinds.specs.declared.plan.Plan.{Plan}
-use Rattle.plan_model.specs.TrafficPlans.{IsWhole}
+use Rattle.pair_model.specs.TrafficPlans.{IsWhole}
 use Rattle.script_words.specs.declared.fault.ScriptFault.{ScriptFault}
 use Rattle.script_text.specs.Script.{script_of}
 

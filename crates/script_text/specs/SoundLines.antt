@@ -1,6 +1,6 @@
 -- What holds of the lines so far and of a line's words.
 use Rattle.std.specs.Prelude.{◌≡◌, ℕ, ◌<◌, List, [], ◌∷◌, length}
-use Rattle.plan_model.specs.TrafficPlans.{IsWhole}
+use Rattle.pair_model.specs.TrafficPlans.{IsWhole}
 use Rattle.script_words.specs.Before.{Before}
 use Rattle.script_words.specs.declared.parts.Part.TheVariants.{Declarations}
 

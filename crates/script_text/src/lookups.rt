@@ -2,7 +2,7 @@
 #![tactic(auto, unfolding(script_words::specs::Tests::and_then))]
 
 ghost use Rattle.std.specs.Prelude.{◌≡◌, ◌<◌, ◌≤◌, length, IfOk};
-ghost use Rattle.plan_model.specs.Plans.{side_plan, pair_plan, dev_plan};
+ghost use Rattle.pair_model.specs.Plans.{side_plan, pair_plan, dev_plan};
 ghost use Rattle.script_words.specs.Before.{pair_word, dev_word, switch_word, queue_word, named_side, named_queue, pair_names, dev_names, switch_names};
 ghost use Rattle.script_words.specs.Declarations.{host_word, new_name};
 

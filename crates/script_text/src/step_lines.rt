@@ -3,9 +3,9 @@
 
 ghost use Rattle.std.specs.Prelude.{◌≡◌, ◌<◌, ◌≤◌, ◌+◌, ◌∷◌, [], map, length};
 ghost use Rattle.step_kinds.specs.Limits.{most_frame_bytes};
-ghost use Rattle.plan_model.specs.DeclaredPlans.{IsPair};
-ghost use Rattle.plan_model.specs.Ethernet.{ethernet_header};
-ghost use Rattle.plan_model.specs.Plans.{side_plan, pair_plan};
+ghost use Rattle.pair_model.specs.DeclaredPlans.{IsPair};
+ghost use Rattle.pair_model.specs.Ethernet.{ethernet_header};
+ghost use Rattle.pair_model.specs.Plans.{side_plan, pair_plan};
 ghost use Rattle.step_list.specs.Compact.{steps_of};
 ghost use Rattle.script_words.specs.StepLines as rules;
 ghost use Rattle.script_words.specs.StepWords.{pair_step_of, side_steps_of, queue_steps_of, numbered_of, frame_steps_of};

@@ -4,8 +4,8 @@
 ghost use Rattle.std.specs.Prelude.{◌≡◌, ◌<◌, ◌≤◌, ◌*◌, length, map, sum, List, Ok, OnOk};
 ghost use Rattle.step_kinds.specs.Limits.{most_frame_bytes, most_traffic_frames};
 ghost use Rattle.step_kinds.specs.declared.plan.Traffic.{Traffic};
-ghost use Rattle.plan_model.specs.Plans.{side_plan, pair_plan};
-ghost use Rattle.plan_model.specs.TrafficPlans.{frames_in, bytes_in};
+ghost use Rattle.pair_model.specs.Plans.{side_plan, pair_plan};
+ghost use Rattle.pair_model.specs.TrafficPlans.{frames_in, bytes_in};
 ghost use Rattle.script_words.specs.Before.{MoreTraffic};
 ghost use Rattle.script_words.specs.Compact.{given_of};
 ghost use Rattle.script_words.specs.Reads.{ReadsLine, result_map};

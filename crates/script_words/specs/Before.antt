@@ -11,7 +11,7 @@ use Rattle.step_kinds.specs.declared.plan.SwitchPlan.{SwitchPlan}
 use Rattle.step_kinds.specs.declared.plan.Plan.{Plan}
 use Rattle.step_kinds.specs.declared.plan.Traffic.{Traffic}
 use Rattle.step_kinds.specs.declared.steps.Step.{Step}
-use Rattle.plan_model.specs.Plans.{side_plan, pair_plan}
+use Rattle.pair_model.specs.Plans.{side_plan, pair_plan}
 use Rattle.script_words.specs.Tests.{◌>>=◌, fault_if, found_or, at}
 use Rattle.script_words.specs.Words.{name_word, side_word, number_word}
 use Rattle.script_words.specs.declared.parts.Part.{Part}

@@ -4,7 +4,7 @@ use Rattle.std.specs.List.{list_all, list_any}
 use Rattle.std.specs.Str.{bytes_eq}
 use Rattle.step_kinds.specs.declared.names.Side.{Side}
 use Rattle.step_kinds.specs.declared.names.Side.TheVariants.{A, B}
-use Rattle.plan_model.specs.Plans.{dev_plan}
+use Rattle.pair_model.specs.Plans.{dev_plan}
 use Rattle.script_words.specs.Before.{Before, dev_word}
 use Rattle.script_words.specs.Tests.{◌>>=◌, fault_if, fault_at, at}
 use Rattle.script_words.specs.declared.parts.PairHosts.{PairHosts}

@@ -9,9 +9,9 @@ use Rattle.step_kinds.specs.declared.plan.PairPlan.{PairPlan}
 use Rattle.step_kinds.specs.declared.plan.Plan.{Plan}
 use Rattle.step_kinds.specs.declared.steps.Step.{Step}
 use Rattle.step_kinds.specs.declared.steps.Step.TheVariants.{Enable, Train, Break, DropDone, Clean, Offer, Check, Ready, Join, Begin, QpDown, Xbegin, Post, Land, Look, Copy, Clear, Ack, Wake, Irq, Mask, Unmask, Spad, Poke, ShowMem, ShowPad, ShowQueue, Relay, Xnext}
-use Rattle.plan_model.specs.Ethernet.{ethernet_header}
-use Rattle.plan_model.specs.Macros.{send, xmit, land_all, receive, offer_all}
-use Rattle.plan_model.specs.Plans.{side_plan, pair_plan, dev_plan, switch_plan, port_device}
+use Rattle.pair_model.specs.Ethernet.{ethernet_header}
+use Rattle.pair_model.specs.Macros.{send, xmit, land_all, receive, offer_all}
+use Rattle.pair_model.specs.Plans.{side_plan, pair_plan, dev_plan, switch_plan, port_device}
 use Rattle.script_words.specs.Before.{Before, Given, MoreSteps, TrafficBegins, pair_word, dev_word, switch_word, named_side, named_queue}
 use Rattle.script_words.specs.Ports.{is_port}
 use Rattle.script_words.specs.Tests.{◌>>=◌, fault_if, fault_at, unknown_line, whole, at}

@@ -5,8 +5,8 @@ use Rattle.step_kinds.specs.declared.names.Side.{Side}
 use Rattle.step_kinds.specs.declared.plan.PairPlan.{PairPlan}
 use Rattle.step_kinds.specs.declared.steps.Step.{Step}
 use Rattle.step_kinds.specs.declared.steps.Step.TheVariants as step
-use Rattle.plan_model.specs.Macros.{send, land_all, receive, offer_all}
-use Rattle.plan_model.specs.Plans.{side_plan}
+use Rattle.pair_model.specs.Macros.{send, land_all, receive, offer_all}
+use Rattle.pair_model.specs.Plans.{side_plan}
 use Rattle.script_words.specs.StepLines.{NumberedSteps, largest_number}
 use Rattle.script_words.specs.declared.step_words.PairWord.{PairWord}
 use Rattle.script_words.specs.declared.step_words.PairWord.TheVariants.{Train, Break, Drop}

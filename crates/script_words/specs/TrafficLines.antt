@@ -7,9 +7,9 @@ use Rattle.step_kinds.specs.declared.plan.PairPlan.{PairPlan}
 use Rattle.step_kinds.specs.declared.plan.Traffic.{Traffic}
 use Rattle.step_kinds.specs.declared.plan.Traffic.TheVariants.{Send, Break}
 use Rattle.lane_model.specs.Lane.{count_from}
-use Rattle.plan_model.specs.Plans.{pair_plan}
-use Rattle.plan_model.specs.Sizes.{sizes_of}
-use Rattle.plan_model.specs.TrafficPlans.{frames_in, bytes_in, is_break_of}
+use Rattle.pair_model.specs.Plans.{pair_plan}
+use Rattle.pair_model.specs.Sizes.{sizes_of}
+use Rattle.pair_model.specs.TrafficPlans.{frames_in, bytes_in, is_break_of}
 use Rattle.script_words.specs.Before.{Before, Given, MoreTraffic, pair_word, named_queue}
 use Rattle.pair_settings.specs.Settings.{agrees}
 use Rattle.script_words.specs.Tests.{◌>>=◌, fault_if, unknown_line, whole, at}

@@ -2,7 +2,7 @@
 use Rattle.std.specs.Prelude.{List, [], ◌∷◌, replicate}
 use Rattle.std.specs.List.{flat_map}
 use Rattle.step_kinds.specs.declared.plan.Line.{Line}
-use Rattle.plan_model.specs.Macros.{receive}
+use Rattle.pair_model.specs.Macros.{receive}
 use Rattle.step_list.specs.Compact.{lines_with, step_again}
 use Rattle.step_list.specs.declared.step_list.Stretch.{Stretch}
 use Rattle.step_list.specs.declared.step_list.Stretch.TheVariants.{One, Again, Received}

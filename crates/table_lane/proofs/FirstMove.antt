@@ -3,9 +3,9 @@ use Rattle.std.proofs.Common.{◌≡◌, ℕ, ◌+◌, ◌%◌, ◌<◌, ◌≤�
 use Rattle.std.proofs.lemmas.List.{length-map}
 use Rattle.std.proofs.lemmas.Option.{slice_get_past}
 use Rattle.std.specs.Prelude.{slice_get, MatchBool}
-use Rattle.table_rule.specs.declared.parts.MovePart.{MovePart}
-use Rattle.table_rule.specs.Words.{header_of}
-use Rattle.table_rule.specs.Knowledge.{taken, posted_loaded, frame_taken}
+use Rattle.table_lane.specs.declared.parts.MovePart.{MovePart}
+use Rattle.table_lane.specs.Words.{header_of}
+use Rattle.table_lane.specs.Knowledge.{taken, posted_loaded, frame_taken}
 use Rattle.table_lane.specs.declared.mover.MoveAnswer.{MoveAnswer}
 use Rattle.table_lane.specs.declared.mover.MoveAnswer.TheVariants.{Took, Header, Flag, Idle}
 use Rattle.table_lane.specs.MoveChoice.{waiting, open_moves, after_move, Makes, MakesFirst, Moves}

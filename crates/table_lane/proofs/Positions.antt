@@ -1,9 +1,9 @@
 -- Positions in a ring, without remainders.
 use Rattle.std.proofs.Common.{◌≡◌, ℕ, ◌+◌, ◌-◌, ◌%◌, ◌<◌, ◌≤◌, ◌⊎◌, inl, inr, sym, ap, ◌∙◌, arith, mod-lt, mod-eq_of_lt}
 use Rattle.std.proofs.Math.Nat.{mod-add-mod, add-mod_right}
-use Rattle.table_rule.specs.LaneNames.{tail_of}
-use Rattle.table_rule.specs.ShownLane.{number_at}
-use Rattle.table_rule.proofs.Facade.{number_is}
+use Rattle.table_lane.specs.LaneNames.{tail_of}
+use Rattle.table_lane.specs.ShownLane.{number_at}
+use Rattle.table_lane.proofs.Facade.{number_is}
 
 -- a position is below the number of entries
 pub position_below : (N n position : ℕ) → 2 ≤ N → position ≡ n % N → position < N

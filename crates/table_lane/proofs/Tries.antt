@@ -1,10 +1,10 @@
 -- Each step of the mover and of the way back raises what it counts.
 use Rattle.std.proofs.Common.{◌≡◌, ℕ, zero, suc, ◌+◌, ◌%◌, ◌≤◌, Bool, true, false, List, [], ◌∷◌, ◌++◌, length, eqb, get_or, map, if◌then◌else◌, arith, refl, sym, ap, subst}
 use Rattle.std.specs.Prelude.{slice_get, MatchBool, MatchOption}
-use Rattle.table_rule.specs.declared.parts.MovePart.{MovePart}
-use Rattle.table_rule.specs.declared.parts.BackPart.{BackPart}
-use Rattle.table_rule.specs.Words.{header_of}
-use Rattle.table_rule.specs.Knowledge.{taken, posted_loaded, frame_taken, index_out_loaded, index_stored}
+use Rattle.table_lane.specs.declared.parts.MovePart.{MovePart}
+use Rattle.table_lane.specs.declared.parts.BackPart.{BackPart}
+use Rattle.table_lane.specs.Words.{header_of}
+use Rattle.table_lane.specs.Knowledge.{taken, posted_loaded, frame_taken, index_out_loaded, index_stored}
 use Rattle.table_lane.specs.declared.mover.MoveAnswer.{MoveAnswer}
 use Rattle.table_lane.specs.declared.mover.MoveAnswer.TheVariants.{Took, Header, Flag}
 use Rattle.table_lane.specs.MoveChoice.{waiting, open_moves, after_move, Makes, MakesFirst, TakesOrMakes}

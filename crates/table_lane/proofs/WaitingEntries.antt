@@ -2,12 +2,12 @@
 use Rattle.std.proofs.Common.{◌≡◌, ℕ, zero, suc, ◌+◌, ◌-◌, ◌%◌, ◌<◌, ◌≤◌, Bool, true, false, List, [], ◌∷◌, ◌++◌, length, drop, set, get_or, refl, sym, ap, ◌∙◌, arith, not, eqb, eq-eqb, ne_eqb, ◌≢◌, length-set, Some}
 use Rattle.std.proofs.lemmas.List.{length_push}
 use Rattle.atomic_table.specs.Table.{rest}
-use Rattle.table_rule.specs.declared.parts.MovePart.{MovePart}
-use Rattle.table_rule.specs.declared.parts.LaneView.{LaneView}
-use Rattle.table_rule.specs.Views.{the_move, with_move}
-use Rattle.table_rule.specs.Knowledge.{posted_loaded, frame_taken, header_stored, flag_stored}
+use Rattle.table_lane.specs.declared.parts.MovePart.{MovePart}
+use Rattle.table_lane.specs.declared.parts.LaneView.{LaneView}
+use Rattle.table_lane.specs.Views.{the_move, with_move}
+use Rattle.table_lane.specs.Knowledge.{posted_loaded, frame_taken, header_stored, flag_stored}
 use Rattle.std.specs.Prelude.{remove}
-use Rattle.table_rule.specs.Rule.{Content, Sitter}
+use Rattle.table_lane.specs.Rule.{Content, Sitter}
 use Rattle.table_lane.specs.MoveChoice.{waiting}
 use Rattle.table_lane.specs.EndFields.{slots_of, MovesWith}
 

@@ -1,7 +1,7 @@
 -- The words of an entry, by its position, are words of its lane's table.
 use Rattle.std.proofs.Common.{◌≡◌, ℕ, ◌+◌, ◌*◌, ◌%◌, ◌<◌, sym, ap, ◌∙◌, arith}
 use Rattle.atomic_table.specs.Seated.{TableId}
-use Rattle.table_rule.specs.Words.{spacing, posted_word, header_word, flag_word}
+use Rattle.table_lane.specs.Words.{spacing, posted_word, header_word, flag_word}
 use Rattle.table_lane.specs.Table.{IsTableOf}
 use Rattle.table_lane.proofs.Positions.{position_below}
 

@@ -2,20 +2,20 @@
 use Rattle.std.specs.Prelude.{◌≡◌, ◌≤◌, ◌+◌, ◌%◌, ℕ, suc, false, List, [], ◌∷◌, length, Some}
 use Rattle.std.specs.VecDeque.{deque_capacity}
 use Rattle.std.specs.Arc.{arc_value}
-use Rattle.table_rule.specs.declared.parts.LaneView.{LaneView}
-use Rattle.table_rule.specs.Views.{the_send, the_move, the_recv, the_back, the_cut}
-use Rattle.table_rule.specs.ShownLane.{most_lane_frames}
+use Rattle.table_lane.specs.declared.parts.LaneView.{LaneView}
+use Rattle.table_lane.specs.Views.{the_send, the_move, the_recv, the_back, the_cut}
+use Rattle.table_lane.specs.ShownLane.{most_lane_frames}
 use Rattle.table_lane.specs.Table.{IsTableOf}
 use Rattle.table_lane.specs.Ends.{Sender, send_only, Mover, move_only, Receiver, recv_only, WayBack, back_only, Cutter, cut_only}
 use Rattle.table_lane.specs.declared.board.Standing.{Standing}
 use Rattle.table_lane.specs.declared.send.SendEnd.TheInside as send
 use Rattle.table_lane.specs.declared.mover.MoveEnd.TheInside as mover
-use Rattle.table_rule.specs.Rule.{Content, Sitter}
+use Rattle.table_lane.specs.Rule.{Content, Sitter}
 use Rattle.table_lane.specs.MoveChoice.{waiting}
 use Rattle.table_lane.specs.declared.recv.RecvEnd.TheInside as recv
 use Rattle.table_lane.specs.declared.back.BackEnd.TheInside as back
 use Rattle.table_lane.specs.declared.back.CutEnd.TheInside as cut
-use Rattle.table_rule.specs.LaneNames.{Idle, tail_of}
+use Rattle.table_lane.specs.LaneNames.{Idle, tail_of}
 
 -- an end stands at the table of its lane, its seat has one part alone and no slot, and the part knows how many entries
 -- there are

@@ -1,11 +1,11 @@
 -- One seat with all five parts, in which a lane ends, and what its proof shows.
 use Rattle.std.specs.Prelude.{◌≡◌, ℕ, Bool, true, List, [], ◌∷◌, take}
 use Rattle.atomic_table.specs.Seated.{TableId}
-use Rattle.table_rule.specs.declared.parts.MovePart.{MovePart}
-use Rattle.table_rule.specs.declared.parts.LaneView.{LaneView}
-use Rattle.table_rule.specs.Words.{cut_word}
-use Rattle.table_rule.specs.Rule.{Sitter}
-use Rattle.table_rule.specs.Views.{no_parts, the_send, the_recv, the_cut, HasSend, HasMove, HasRecv, HasBack, HasCut}
+use Rattle.table_lane.specs.declared.parts.MovePart.{MovePart}
+use Rattle.table_lane.specs.declared.parts.LaneView.{LaneView}
+use Rattle.table_lane.specs.Words.{cut_word}
+use Rattle.table_lane.specs.Rule.{Sitter}
+use Rattle.table_lane.specs.Views.{no_parts, the_send, the_recv, the_cut, HasSend, HasMove, HasRecv, HasBack, HasCut}
 
 -- a seat that has all parts, and no slot
 pub record HasAll (me : Sitter) : Type 0 where

@@ -1,13 +1,13 @@
 -- What contracts see of the ends: the table that they stand at, and what they know.
 use Rattle.std.specs.Prelude.{Some}
 use Rattle.atomic_table.specs.Seated.{TableId}
-use Rattle.table_rule.specs.declared.parts.SendPart.{SendPart}
-use Rattle.table_rule.specs.declared.parts.MovePart.{MovePart}
-use Rattle.table_rule.specs.declared.parts.RecvPart.{RecvPart}
-use Rattle.table_rule.specs.declared.parts.BackPart.{BackPart}
-use Rattle.table_rule.specs.declared.parts.CutPart.{CutPart}
-use Rattle.table_rule.specs.declared.parts.LaneView.{LaneView}
-use Rattle.table_rule.specs.Views.{no_parts}
+use Rattle.table_lane.specs.declared.parts.SendPart.{SendPart}
+use Rattle.table_lane.specs.declared.parts.MovePart.{MovePart}
+use Rattle.table_lane.specs.declared.parts.RecvPart.{RecvPart}
+use Rattle.table_lane.specs.declared.parts.BackPart.{BackPart}
+use Rattle.table_lane.specs.declared.parts.CutPart.{CutPart}
+use Rattle.table_lane.specs.declared.parts.LaneView.{LaneView}
+use Rattle.table_lane.specs.Views.{no_parts}
 
 pub record Sender : Type 0 where
   pub lane : TableId

@@ -8,3 +8,17 @@ pub mod RecvAnswers
 pub mod SendAnswers
 pub mod Table
 pub mod Tries
+pub mod Borders
+pub mod Kinds
+pub mod Knowledge
+pub mod LaneNames
+pub mod LaneSteps
+pub mod Loads
+pub mod Moment
+pub mod Owners
+pub mod Plays
+pub mod Rule
+pub mod Seated
+pub mod ShownLane
+pub mod Views
+pub mod Words

@@ -1,6 +1,6 @@
 -- The ends of a new lane.
 use Rattle.std.specs.Prelude.{◌≡◌, ℕ}
-use Rattle.table_rule.specs.Views.{new_send, new_move, new_recv, new_back, new_cut}
+use Rattle.table_lane.specs.Views.{new_send, new_move, new_recv, new_back, new_cut}
 use Rattle.table_lane.specs.Ends.{Sender, Mover, Receiver, WayBack, Cutter}
 
 -- the ends stand at one table

@@ -1,6 +1,6 @@
 -- The fields of a lane's proof.
 use Rattle.std.specs.Prelude.{◌≡◌, ◌≤◌, [], ◌∷◌, length}
-use Rattle.table_rule.specs.Views.{the_recv}
+use Rattle.table_lane.specs.Views.{the_recv}
 use Rattle.table_lane.specs.EndOfLane.{HasAll, Shown, view_in, shown_by}
 use Rattle.table_lane.specs.declared.lane_end.LaneProof.TheInside.{Inside}
 

@@ -1,12 +1,12 @@
 -- What the receiver's end, the way back and the cut answer, and what they then know, by what they load.
 use Rattle.std.specs.Prelude.{◌≡◌, ◌≢◌, ◌==◌, ℕ, if◌then◌else◌, List, [], ◌∷◌, ◌++◌, length}
-use Rattle.table_rule.specs.declared.parts.RecvPart.{RecvPart}
-use Rattle.table_rule.specs.declared.parts.BackPart.{BackPart}
-use Rattle.table_rule.specs.LaneNames as phase
-use Rattle.table_rule.specs.LaneNames.{done, tail_of}
-use Rattle.table_rule.specs.Rule.{Sitter}
-use Rattle.table_rule.specs.Views.{the_recv, with_recv}
-use Rattle.table_rule.specs.Knowledge.{flag_loaded, index_out_loaded, index_named, index_stored}
+use Rattle.table_lane.specs.declared.parts.RecvPart.{RecvPart}
+use Rattle.table_lane.specs.declared.parts.BackPart.{BackPart}
+use Rattle.table_lane.specs.LaneNames as phase
+use Rattle.table_lane.specs.LaneNames.{done, tail_of}
+use Rattle.table_lane.specs.Rule.{Sitter}
+use Rattle.table_lane.specs.Views.{the_recv, with_recv}
+use Rattle.table_lane.specs.Knowledge.{flag_loaded, index_out_loaded, index_named, index_stored}
 use Rattle.table_lane.specs.declared.recv.RecvAnswer.{RecvAnswer}
 use Rattle.table_lane.specs.declared.recv.RecvAnswer.TheVariants.{Got, Empty}
 use Rattle.table_lane.specs.declared.back.BackAnswer.{BackAnswer}

@@ -1,8 +1,8 @@
 -- What the sender's end answers, and what it then knows, by what it loads.
 use Rattle.std.specs.Prelude.{◌≡◌, ◌==◌, ℕ, nat_lt, if◌then◌else◌, List, length}
-use Rattle.table_rule.specs.declared.parts.SendPart.{SendPart}
-use Rattle.table_rule.specs.Words.{cut_word}
-use Rattle.table_rule.specs.Knowledge.{link_loaded, index_loaded, head, free_by, frame_sent}
+use Rattle.table_lane.specs.declared.parts.SendPart.{SendPart}
+use Rattle.table_lane.specs.Words.{cut_word}
+use Rattle.table_lane.specs.Knowledge.{link_loaded, index_loaded, head, free_by, frame_sent}
 use Rattle.table_lane.specs.declared.send.SendAnswer.{SendAnswer}
 use Rattle.table_lane.specs.declared.send.SendAnswer.TheVariants.{Sent, NoRoom, Cut}
 

@@ -3,10 +3,10 @@ use Rattle.std.specs.Prelude.{◌≡◌, ◌≤◌, ℕ}
 use Rattle.atomic_table.specs.Seated.{TableId}
 use Rattle.atomic_table.specs.declared.shared.Seat.{Seat}
 use Rattle.step_kinds.specs.Limits.{most_traffic_entries}
-use Rattle.table_rule.specs.declared.parts.LaneView.{LaneView}
-use Rattle.table_rule.specs.Plays.{Tells}
-use Rattle.table_rule.specs.Rule.{Content}
-use Rattle.table_rule.specs.Words.{words_in}
+use Rattle.table_lane.specs.declared.parts.LaneView.{LaneView}
+use Rattle.table_lane.specs.Plays.{Tells}
+use Rattle.table_lane.specs.Rule.{Content}
+use Rattle.table_lane.specs.Words.{words_in}
 
 -- a lane's table of N entries: so many words and slots, and N for its key
 pub record IsTableOf (N : ℕ) (id : TableId) (about : ℕ) : Type 0 where

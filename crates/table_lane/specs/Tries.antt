@@ -1,7 +1,7 @@
 -- How often the mover and the way back tried to do something, by what they count.
 use Rattle.std.specs.Prelude.{◌≡◌, ◌≤◌, ℕ, ◌+◌}
-use Rattle.table_rule.specs.declared.parts.MovePart.{MovePart}
-use Rattle.table_rule.specs.declared.parts.BackPart.{BackPart}
+use Rattle.table_lane.specs.declared.parts.MovePart.{MovePart}
+use Rattle.table_lane.specs.declared.parts.BackPart.{BackPart}
 use Rattle.table_lane.specs.declared.mover.MoveAnswer.{MoveAnswer}
 use Rattle.table_lane.specs.declared.back.BackAnswer.{BackAnswer}
 use Rattle.table_lane.specs.MoveChoice.{Moves}

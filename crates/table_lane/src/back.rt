@@ -1,9 +1,9 @@
 //! The way back, and the cut.
 ghost use Rattle.std.specs.Prelude.{◌≡◌, ◌≢◌, ◌+◌, ◌≤◌, ◌<◌, ◌^◌};
 ghost use Rattle.step_kinds.specs.Limits.{most_traffic_entries};
-ghost use Rattle.table_rule.specs.ShownLane.{number_at, most_lane_frames};
-ghost use Rattle.table_rule.specs.LaneNames.{tail_of};
-ghost use Rattle.table_rule.specs.Knowledge.{link_cut};
+ghost use Rattle.table_lane.specs.ShownLane.{number_at, most_lane_frames};
+ghost use Rattle.table_lane.specs.LaneNames.{tail_of};
+ghost use Rattle.table_lane.specs.Knowledge.{link_cut};
 ghost use Rattle.table_lane.specs.RecvAnswers.{GivesBack};
 
 use crate::board::Standing;

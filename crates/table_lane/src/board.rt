@@ -2,14 +2,14 @@
 ghost use Rattle.std.specs.Prelude.{◌≡◌, ◌+◌, ◌*◌, ◌%◌, ◌≤◌, ◌<◌, ℕ, IfOk};
 ghost use Rattle.std.specs.Arc.{arc_value};
 ghost use Rattle.step_kinds.specs.Limits.{most_traffic_entries};
-ghost use Rattle.table_rule.specs.Words.{spacing, index_out_word, index_word, link_word, words_in, header_of};
+ghost use Rattle.table_lane.specs.Words.{spacing, index_out_word, index_word, link_word, words_in, header_of};
 
+use crate::parts::LaneView;
+use crate::rule::LaneRule;
 use atomic_table::{Seat, Shared, Table};
 use std::alloc::{AllocError, Global};
 use std::sync::Arc;
 use step_kinds::Frame;
-use table_rule::parts::LaneView;
-use table_rule::rule::LaneRule;
 
 /// The table of a lane: its words, its slots, and the rule over both.
 pub(crate) type LaneTable = Table<Option<Frame>, LaneView, u64, LaneRule, Global>;

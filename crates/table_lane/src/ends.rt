@@ -2,22 +2,22 @@
 ghost use Rattle.std.specs.Prelude.{◌≡◌, ◌≤◌, ◌<◌, [], IfOk};
 ghost use Rattle.std.specs.Arc.{arc_value};
 ghost use Rattle.step_kinds.specs.Limits.{most_traffic_entries};
-ghost use Rattle.table_rule.specs.Views.{all_parts, OfMover, OfReceiver, OfWayBack, OfCut, without, alone};
-ghost use Rattle.table_rule.specs.Words.{first_words, words_of};
+ghost use Rattle.table_lane.specs.Views.{all_parts, OfMover, OfReceiver, OfWayBack, OfCut, without, alone};
+ghost use Rattle.table_lane.specs.Words.{first_words, words_of};
 ghost use Rattle.table_lane.specs.NewEnds.{AreNew};
 ghost use Rattle.table_lane.specs.Table.{IsTableOf};
 
 use crate::back::{BackEnd, CutEnd};
 use crate::board::{Board, LaneSeat, LaneTable, Standing, index_out_word, index_word, words_in};
 use crate::mover::MoveEnd;
+use crate::parts::{BackPart, CutPart, MovePart, RecvPart};
+use crate::plays::SplitsOff;
 use crate::recv::RecvEnd;
 use crate::send::SendEnd;
 use std::alloc::{AllocError, Global};
 use std::collections::VecDeque;
 use std::sync::Arc;
 use step_kinds::FrameList;
-use table_rule::parts::{BackPart, CutPart, MovePart, RecvPart};
-use table_rule::plays::SplitsOff;
 
 // A table, shared by four ends.
 type FourTables = (

@@ -1,8 +1,8 @@
 //! The end of a lane: its five ends become one, and what is left in the ring comes out.
 ghost use Rattle.std.specs.Prelude.{◌≡◌, ◌≤◌, ◌<◌, ◌+◌, ◌++◌, true, [], length, IfSome, MatchBool};
-ghost use Rattle.table_rule.specs.Views.{joined, the_send, the_move, the_recv, the_cut};
-ghost use Rattle.table_rule.specs.Words.{cut_word};
-ghost use Rattle.table_rule.specs.ShownLane.{most_lane_frames};
+ghost use Rattle.table_lane.specs.Views.{joined, the_send, the_move, the_recv, the_cut};
+ghost use Rattle.table_lane.specs.Words.{cut_word};
+ghost use Rattle.table_lane.specs.ShownLane.{most_lane_frames};
 ghost use Rattle.table_lane.specs.Table.{IsTableOf};
 ghost use Rattle.table_lane.specs.NewEnds.{AreOfOneLane};
 ghost use Rattle.table_lane.specs.RecvAnswers.{IsReady};
@@ -11,14 +11,14 @@ ghost use Rattle.table_lane.specs.EndOfLane.{CutIsMade, HasAll, MovesNext, Other
 use crate::back::{BackEnd, CutEnd};
 use crate::board::{Board, LaneSeat, Standing, header_of, position_of};
 use crate::mover::MoveEnd;
+use crate::parts::LaneView;
+use crate::plays::JoinsSeats;
 use crate::recv::{RecvEnd, receive};
 use crate::send::SendEnd;
 use crate::steps::{load_posted, store_flag, store_header};
 use atomic_table::Badge;
 use std::marker::Model;
 use step_kinds::FrameList;
-use table_rule::parts::LaneView;
-use table_rule::plays::JoinsSeats;
 
 /// What a lane did, by the seat of all its parts. Nothing else makes one but [`finish`].
 ///

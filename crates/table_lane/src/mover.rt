@@ -1,7 +1,7 @@
 //! The mover's end.
 ghost use Rattle.std.specs.Prelude.{◌≡◌, ◌+◌, ◌%◌, ◌<◌, ◌==◌, true, false, List, [], ℕ, length, slice_get, slice_index, slice_index_or, MatchBool, Some};
-ghost use Rattle.table_rule.specs.Words.{header_of};
-ghost use Rattle.table_rule.specs.Knowledge.{taken, posted_loaded, frame_taken, header_stored, flag_stored};
+ghost use Rattle.table_lane.specs.Words.{header_of};
+ghost use Rattle.table_lane.specs.Knowledge.{taken, posted_loaded, frame_taken, header_stored, flag_stored};
 ghost use Rattle.table_lane.specs.MoveChoice.{waiting, open_moves, Makes, Moves};
 ghost use Rattle.table_lane.specs.declared.mover.MoveAnswer.{MoveAnswer};
 

@@ -1,8 +1,8 @@
 //! The receiver's end.
 ghost use Rattle.std.specs.Prelude.{◌≡◌, ◌%◌, ◌≤◌, ◌<◌, ℕ, length, take, MatchOption, IfSome, IfNone};
-ghost use Rattle.table_rule.specs.Views.{HasRecv, the_recv};
-ghost use Rattle.table_rule.specs.LaneNames.{Idle};
-ghost use Rattle.table_rule.specs.ShownLane.{most_lane_frames};
+ghost use Rattle.table_lane.specs.Views.{HasRecv, the_recv};
+ghost use Rattle.table_lane.specs.LaneNames.{Idle};
+ghost use Rattle.table_lane.specs.ShownLane.{most_lane_frames};
 ghost use Rattle.table_lane.specs.Table.{IsTableOf};
 ghost use Rattle.table_lane.specs.RecvAnswers.{Receives, IsReady, NothingCame, FrameCame};
 

@@ -1,8 +1,8 @@
 //! The sender's end.
 ghost use Rattle.std.specs.Prelude.{◌≡◌, ◌≢◌, ◌<◌, ◌≤◌, [], length};
 ghost use Rattle.step_kinds.specs.Limits.{most_traffic_entries};
-ghost use Rattle.table_rule.specs.LaneNames.{free_entries};
-ghost use Rattle.table_rule.specs.ShownLane.{most_lane_frames};
+ghost use Rattle.table_lane.specs.LaneNames.{free_entries};
+ghost use Rattle.table_lane.specs.ShownLane.{most_lane_frames};
 ghost use Rattle.table_lane.specs.SendAnswers.{Sends};
 
 use crate::board::{CUT, Standing, position_after};

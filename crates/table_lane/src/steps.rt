@@ -3,24 +3,24 @@
 ghost use Rattle.std.specs.Prelude.{◌≡◌, ◌≢◌, ℕ, ◌+◌, ◌-◌, ◌%◌, ◌≤◌, ◌<◌, List, [], ◌∷◌, false, true, length, slice_index_or, Some, None, drop};
 ghost use Rattle.atomic_table.specs.Table.{rest};
 ghost use Rattle.step_kinds.specs.Limits.{most_frame_bytes};
-ghost use Rattle.table_rule.specs.LaneNames.{Idle, Copying, Copied, Cleared, tail_of};
-ghost use Rattle.table_rule.specs.Views.{Bytes, HasSend, HasMove, HasRecv, HasBack, HasCut, the_send, the_move, the_recv, the_back, the_cut, with_send, with_move};
-ghost use Rattle.table_rule.specs.Knowledge.{frame_sent, header_stored, taken};
-ghost use Rattle.table_rule.specs.Rule.{Content};
-ghost use Rattle.table_rule.specs.Plays.{sees_link, sees_index, stores_posted, sees_posted, stores_flag, sees_flag, copies_frame, clears_flag, stores_index_out, sees_index_out, stores_index, cuts_link};
-ghost use Rattle.table_rule.specs.Words.{cut_word};
-ghost use Rattle.table_rule.specs.ShownLane.{most_lane_frames};
+ghost use Rattle.table_lane.specs.LaneNames.{Idle, Copying, Copied, Cleared, tail_of};
+ghost use Rattle.table_lane.specs.Views.{Bytes, HasSend, HasMove, HasRecv, HasBack, HasCut, the_send, the_move, the_recv, the_back, the_cut, with_send, with_move};
+ghost use Rattle.table_lane.specs.Knowledge.{frame_sent, header_stored, taken};
+ghost use Rattle.table_lane.specs.Rule.{Content};
+ghost use Rattle.table_lane.specs.Plays.{sees_link, sees_index, stores_posted, sees_posted, stores_flag, sees_flag, copies_frame, clears_flag, stores_index_out, sees_index_out, stores_index, cuts_link};
+ghost use Rattle.table_lane.specs.Words.{cut_word};
+ghost use Rattle.table_lane.specs.ShownLane.{most_lane_frames};
 ghost use Rattle.table_lane.specs.Table.{IsTableOf, StepTells};
 
 use crate::board::{
     Board, CUT, DONE, LaneSeat, flag_word, header_of, header_word, index_out_word, index_word,
     link_word, posted_word,
 };
-use step_kinds::Frame;
-use table_rule::plays::{
+use crate::plays::{
     ClearsFlag, CopiesFrame, CutsLink, SeesFlag, SeesIndex, SeesIndexOut, SeesLink, SeesPosted,
     StoresFlag, StoresHeader, StoresIndex, StoresIndexOut, StoresPosted,
 };
+use step_kinds::Frame;
 
 // The sender loads the link word.
 pub(crate) fn load_link(table: &Board, seat: &mut LaneSeat, entries: u64) -> u64

@@ -8,9 +8,9 @@ use Rattle.step_kinds.specs.declared.names.Side.{Side}
 use Rattle.step_kinds.specs.declared.names.Side.TheVariants.{A, B}
 use Rattle.step_kinds.specs.declared.plan.PairPlan.{PairPlan}
 use Rattle.step_kinds.specs.declared.plan.SidePlan.{SidePlan}
-use Rattle.plan_model.specs.Plans.{side_plan}
-use Rattle.plan_model.specs.Sizes.{agreed_version}
-use Rattle.trace_text.specs.Words.{number_member, text_member, truth_text}
+use Rattle.pair_model.specs.Plans.{side_plan}
+use Rattle.pair_model.specs.Sizes.{agreed_version}
+use Rattle.trace_command.specs.Words.{number_member, text_member, truth_text}
 use Rattle.trace_command.specs.Head.{pair_line, ring_after, side_object}
 
 -- Rings, one more

@@ -5,3 +5,17 @@ pub mod SamePlan
 pub mod Traces
 pub mod TrueTraces
 pub mod WholeTraces
+pub mod Flights
+pub mod Numbers
+pub mod Texts
+pub mod AnswersFit
+pub mod BlockedWait
+pub mod FlyingLabels
+pub mod LandingsOfLabels
+pub mod LinesAreTrue
+pub mod LogsInStep
+pub mod NumbersInStep
+pub mod NumbersOfItems
+pub mod NumbersStandOnce
+pub mod TracesFollow
+pub mod Facade

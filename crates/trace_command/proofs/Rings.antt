@@ -4,9 +4,9 @@ use Rattle.std.specs.Prelude.{codes, slice_index_or}
 use Rattle.step_kinds.specs.declared.names.Side.{Side}
 use Rattle.step_kinds.specs.declared.plan.PairPlan.{PairPlan}
 use Rattle.ring_geometry.specs.Geometry.{Layout, entries_of, max_payload_of}
-use Rattle.plan_model.specs.Orders.{classes_of}
-use Rattle.plan_model.specs.Sizes.{layout_of, sizes_of}
-use Rattle.trace_text.specs.Words.{number_member}
+use Rattle.pair_model.specs.Orders.{classes_of}
+use Rattle.pair_model.specs.Sizes.{layout_of, sizes_of}
+use Rattle.trace_command.specs.Words.{number_member}
 use Rattle.trace_command.specs.Head.{ring_object}
 
 regrouped : (t a b c d : List ℕ) → (((t ++ a) ++ b) ++ c) ++ d ≡ t ++ (((a ++ b) ++ c) ++ d)

@@ -9,10 +9,10 @@ use Rattle.step_kinds.specs.declared.plan.Plan.{Plan}
 use Rattle.step_kinds.specs.declared.steps.Step.{Step}
 use Rattle.step_kinds.specs.declared.steps.Step.TheVariants.{Xbegin}
 use Rattle.report_text.specs.Report.{AnsweredStep, line_of}
-use Rattle.trace_text.specs.Lines.{change_members, made_member, step_line, step_lines}
-use Rattle.trace_text.specs.Steps.{answer_object, step_members, step_name}
-use Rattle.trace_text.specs.Words.{named_object}
-use Rattle.trace_text.specs.Writes.{PairWrites, change_in, pair_in, writes_after}
+use Rattle.trace_command.specs.Lines.{change_members, made_member, step_line, step_lines}
+use Rattle.trace_command.specs.Steps.{answer_object, step_members, step_name}
+use Rattle.trace_command.specs.Words.{named_object}
+use Rattle.trace_command.specs.Writes.{PairWrites, change_in, pair_in, writes_after}
 
 members_same : (plan : Plan) (steps : List Line) (step : Step) → step_members plan step ≡ step_members (record plan { steps = steps }) step
 members_same plan steps (Xbegin pair side queue dev dst kind payload) = refl

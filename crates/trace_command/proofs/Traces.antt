@@ -2,7 +2,7 @@
 use Rattle.std.proofs.Common.{◌≡◌, ◌∙◌, ℕ, List, [], ◌∷◌, ◌++◌, sym, append-nil, append_assoc}
 use Rattle.std.specs.List.{fold}
 use Rattle.report_text.specs.Report.{AnsweredStep}
-use Rattle.trace_text.specs.Lines.{step_line, step_lines}
+use Rattle.trace_command.specs.Lines.{step_line, step_lines}
 use Rattle.trace_command.specs.Trace.{Traced, with_line}
 
 -- Lines put to a trace's text answer by answer are the text before and then the lines that the definition gives.

@@ -2,7 +2,7 @@
 use Rattle.std.proofs.Common.{◌≡◌, ◌∙◌, ℕ, List, [], ◌∷◌, Result, Ok, Err, length, map, refl, sym, ap, subst, arith}
 use Rattle.command_reply.specs.Output.{Output}
 use Rattle.ledger_model.specs.Log.{Answered}
-use Rattle.memory_model.specs.Memory.{memory_of}
+use Rattle.ledger_model.specs.Memory.{memory_of}
 use Rattle.replay_command.specs.Replays.{answered_steps, log_of_plan}
 use Rattle.replay_command.proofs.Facade.{length-answers}
 use Rattle.script_text.specs.Script.{script_of}
@@ -11,9 +11,9 @@ use Rattle.step_kinds.specs.declared.plan.Line.{Line}
 use Rattle.step_kinds.specs.declared.plan.Plan.{Plan}
 use Rattle.step_kinds.specs.declared.steps.Answer.{Answer}
 use Rattle.step_kinds.specs.declared.steps.Step.{Step}
-use Rattle.switch_log.specs.Log.{switch_log}
-use Rattle.trace_laws.specs.Laws.{HaveTheirAnswers, steps_of}
-use Rattle.trace_laws.proofs.Facade.{traces_are_true}
+use Rattle.ledger_model.specs.NetworkLog.{switch_log}
+use Rattle.trace_command.specs.Laws.{HaveTheirAnswers, steps_of}
+use Rattle.trace_command.proofs.Facade.{traces_are_true}
 use Rattle.trace_command.specs.Answers.{HasTrueTrace, IsTraceOf, traced}
 
 answers_in : List Answered → List Answer

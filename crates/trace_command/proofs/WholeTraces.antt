@@ -9,8 +9,8 @@ use Rattle.report_text.specs.Report.{AnsweredStep}
 use Rattle.report_text.specs.declared.whole.LaneCount.{LaneCount}
 use Rattle.replay_command.specs.ReplaySteps.{filled}
 use Rattle.replay_command.specs.Replays.{answered_steps, device_counts, lane_counts, log_of_plan}
-use Rattle.trace_text.specs.Lines.{count_lines, device_lines, end_line, ending, lane_line, step_lines}
-use Rattle.trace_text.specs.Writes.{writes_start}
+use Rattle.trace_command.specs.Lines.{count_lines, device_lines, end_line, ending, lane_line, step_lines}
+use Rattle.trace_command.specs.Writes.{writes_start}
 use Rattle.trace_command.specs.Head.{head}
 use Rattle.trace_command.specs.Trace.{trace_text}
 use Rattle.trace_command.proofs.SamePlan.{lines_same}

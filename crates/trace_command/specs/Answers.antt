@@ -3,13 +3,13 @@ use Rattle.std.specs.Prelude.{◌≡◌, ℕ, ◌<◌, Result, Ok, Err, List, le
 use Rattle.command_reply.specs.Output.{Output, done, refused}
 use Rattle.command_reply.specs.Statuses.{number_of}
 use Rattle.command_reply.specs.declared.status.Status.TheVariants.{Done}
-use Rattle.memory_model.specs.Memory.{memory_of}
+use Rattle.ledger_model.specs.Memory.{memory_of}
 use Rattle.replay_command.specs.Replays.{answered_steps, log_of_plan}
 use Rattle.script_text.specs.Script.{script_of}
 use Rattle.script_words.specs.declared.fault.ScriptFault.{ScriptFault}
 use Rattle.step_kinds.specs.declared.names.Side.{Side}
 use Rattle.step_kinds.specs.declared.plan.Plan.{Plan}
-use Rattle.trace_laws.specs.Traces.{IsTrueTrace}
+use Rattle.trace_command.specs.Traces.{IsTrueTrace}
 use Rattle.trace_command.specs.Trace.{trace_text}
 
 -- the trace of the plan that a script declares, or the script's fault

@@ -5,12 +5,12 @@ use Rattle.std.specs.List.{flat_map, range_with_len}
 use Rattle.step_kinds.specs.declared.names.Side.{Side}
 use Rattle.step_kinds.specs.declared.names.Side.TheVariants.{A, B}
 use Rattle.step_kinds.specs.declared.plan.PairPlan.{PairPlan}
-use Rattle.plan_model.specs.Orders.{classes_of}
-use Rattle.plan_model.specs.Plans.{side_plan}
-use Rattle.plan_model.specs.Sizes.{agreed_version, sizes_of}
+use Rattle.pair_model.specs.Orders.{classes_of}
+use Rattle.pair_model.specs.Plans.{side_plan}
+use Rattle.pair_model.specs.Sizes.{agreed_version, sizes_of}
 use Rattle.report_text.specs.Report.{line_of}
-use Rattle.trace_text.specs.Lines.{first_line}
-use Rattle.trace_text.specs.Words.{number_member, text_member, truth_text}
+use Rattle.trace_command.specs.Lines.{first_line}
+use Rattle.trace_command.specs.Words.{number_member, text_member, truth_text}
 
 -- the ring that a side sends to on a queue: its entries, the most bytes of an entry's payload, and the traffic class of
 -- its writes

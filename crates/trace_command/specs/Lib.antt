@@ -1,3 +1,9 @@
 pub mod Answers
 pub mod Head
 pub mod Trace
+pub mod Lines
+pub mod Steps
+pub mod Words
+pub mod Writes
+pub mod Laws
+pub mod Traces

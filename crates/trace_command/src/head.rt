@@ -2,18 +2,18 @@
 
 ghost use Rattle.std.specs.Prelude.{◌≡◌, ◌++◌, ◌<◌, ◌≤◌, OnOk, All, slice_index_or};
 ghost use Rattle.std.specs.List.{flat_map, range_with_len};
-ghost use Rattle.plan_model.specs.DeclaredPlans.{IsPair};
-ghost use Rattle.plan_model.specs.Orders.{classes_of};
-ghost use Rattle.plan_model.specs.Plans.{side_plan};
-ghost use Rattle.plan_model.specs.Sizes.{agreed_version as version_of};
+ghost use Rattle.pair_model.specs.DeclaredPlans.{IsPair};
+ghost use Rattle.pair_model.specs.Orders.{classes_of};
+ghost use Rattle.pair_model.specs.Plans.{side_plan};
+ghost use Rattle.pair_model.specs.Sizes.{agreed_version as version_of};
 ghost use Rattle.trace_command.specs.Head.{head, pair_line, ring_after, ring_object, side_object};
-ghost use Rattle.trace_text.specs.Words.{truth_text};
+ghost use Rattle.trace_command.specs.Words.{truth_text};
 
+use crate::{push_first_line, push_number_member, push_text_member};
 use plan_numbers::{sending_ring, side_plan, speaks_five};
 use report_text::append::push_word;
 use std::alloc::AllocError;
 use step_kinds::{PairPlan, Side};
-use trace_text::{push_first_line, push_number_member, push_text_member};
 
 /// Adds the head of a trace: the line with its version, and a line for each pair. Each pair is one that a script can
 /// declare. The only error is out of memory.

@@ -2,15 +2,16 @@
 
 ghost use Rattle.std.specs.Prelude.{◌≡◌, ◌++◌, [], IfOk, OnOk, false, replicate};
 ghost use Rattle.std.specs.List.{fold};
-ghost use Rattle.plan_model.specs.DeclaredPlans.{IsDeclared};
-ghost use Rattle.plan_model.specs.TrafficPlans.{IsWhole};
+ghost use Rattle.pair_model.specs.DeclaredPlans.{IsDeclared};
+ghost use Rattle.pair_model.specs.TrafficPlans.{IsWhole};
 ghost use Rattle.script_plan.specs.Scripts.{plan_in};
 ghost use Rattle.replay_command.specs.ReplaySteps.{HasReplayed, filled};
 ghost use Rattle.replay_command.specs.Replays.{device_counts as counts_of_devices, lane_counts as counts_of_lanes, log_of_plan};
-ghost use Rattle.trace_text.specs.Lines.{ending};
+ghost use Rattle.trace_command.specs.Lines.{ending};
 ghost use Rattle.trace_command.specs.Trace.{trace_start, trace_text as text_of_plan, with_line};
 
 use crate::head::push_head;
+use crate::{WriteNumbers, push_ending, push_step_line};
 use cluster_core::Cluster;
 use replay_command::replay::{device_counts, lane_counts};
 use replay_command::steps::{KeepsAnswers, make_steps};
@@ -18,7 +19,6 @@ use script_plan::Script;
 use std::alloc::{AllocError, Global};
 use std::marker::Model;
 use step_kinds::{LineAnswer, Plan, Step};
-use trace_text::{WriteNumbers, push_ending, push_step_line};
 
 /// The lines of a trace so far, the numbers of the writes in flight, and room for one line that repeats. Contracts see
 /// the plan, the numbers and the bytes of the lines.

@@ -2,7 +2,7 @@
 
 ghost use Rattle.std.specs.Prelude.{◌≡◌, ◌≤◌, IfOk, length};
 ghost use Rattle.step_kinds.specs.Limits.{most_script_bytes};
-ghost use Rattle.plan_model.specs.TrafficPlans.{IsWhole};
+ghost use Rattle.pair_model.specs.TrafficPlans.{IsWhole};
 ghost use Rattle.script_plan.specs.Scripts.{plan_in};
 ghost use Rattle.io_edges.specs.Gates.{LetsWorkers};
 ghost use Rattle.cluster_run.specs.Lanes.{most_workers};

@@ -3,7 +3,7 @@
 ghost use Rattle.std.specs.Prelude.{◌≡◌, ◌≤◌, IfOk, length};
 ghost use Rattle.step_kinds.specs.Limits.{most_script_bytes};
 ghost use Rattle.io_edges.specs.Gates.{LetsWorkers};
-ghost use Rattle.plan_model.specs.TrafficPlans.{IsWhole};
+ghost use Rattle.pair_model.specs.TrafficPlans.{IsWhole};
 ghost use Rattle.script_plan.specs.Scripts.{plan_in};
 ghost use Rattle.cluster_run.specs.stream.Workers.{most_stream_workers};
 ghost use Rattle.traffic_command.specs.Answers.{IsStreamOf, IsStreamOfPlan};

@@ -10,7 +10,7 @@ use Rattle.step_kinds.specs.declared.plan.Line.{Line}
 use Rattle.step_kinds.specs.declared.steps.Step.{Step}
 use Rattle.step_kinds.specs.declared.steps.Step.TheVariants.{Post, Land, Copy, Clear, Ack}
 use Rattle.lane_model.specs.Lane.{chunks_in}
-use Rattle.plan_model.specs.Macros.{send, receive}
+use Rattle.pair_model.specs.Macros.{send, receive}
 use Rattle.step_list.specs.Compact.{lines_with}
 use Rattle.traffic_plan.specs.Load.{eight_of, word_at, state_past, state_after, word_of, load_pair, length_of, payload_of, landings_of, frame_steps, frame_lines, lines_of_frame, LoadGiven, frames_given}
 

@@ -9,10 +9,10 @@ use Rattle.step_kinds.specs.declared.plan.Line.{Line}
 use Rattle.step_kinds.specs.declared.steps.Step.{Step}
 use Rattle.step_kinds.specs.declared.steps.Step.TheVariants.{Begin, Post, Land, Look, Copy, Clear, Ack}
 use Rattle.lane_model.specs.Lane.{chunks_in}
-use Rattle.plan_model.specs.DeclaredPlans.{IsSide, IsPair, IsDeclared, IsQueueOf, IsFrame, IsPermitted}
-use Rattle.plan_model.specs.Macros.{send, land_all, receive, posts_in}
-use Rattle.plan_model.specs.Plans.{no_pair}
-use Rattle.plan_model.specs.Switches.{IsMakeable, IsSwitch}
+use Rattle.pair_model.specs.DeclaredPlans.{IsSide, IsPair, IsDeclared, IsQueueOf, IsFrame, IsPermitted}
+use Rattle.pair_model.specs.Macros.{send, land_all, receive, posts_in}
+use Rattle.pair_model.specs.Plans.{no_pair}
+use Rattle.pair_model.specs.Switches.{IsMakeable, IsSwitch}
 use Rattle.traffic_plan.specs.Laws.{LoadIsWhole}
 use Rattle.traffic_plan.specs.Load.{load_pair, length_of, payload_of, landings_of, frame_steps, lines_of_frame, word_of, plan_of}
 use Rattle.traffic_plan.proofs.Frames.{length_payload, few_bytes, few_steps, few_lines}

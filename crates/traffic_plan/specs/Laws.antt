@@ -1,6 +1,6 @@
 -- Laws of generated loads.
 use Rattle.std.specs.Prelude.{ℕ, ◌≤◌, length}
-use Rattle.plan_model.specs.TrafficPlans.{IsWhole}
+use Rattle.pair_model.specs.TrafficPlans.{IsWhole}
 use Rattle.traffic_plan.specs.Load.{frame_steps, load_of, most_load_frames}
 
 -- a frame has 30 steps at most

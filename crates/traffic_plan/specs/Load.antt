@@ -9,7 +9,7 @@ use Rattle.step_kinds.specs.declared.plan.Plan.{Plan}
 use Rattle.step_kinds.specs.declared.steps.Step.{Step}
 use Rattle.step_kinds.specs.declared.steps.Step.TheVariants.{Land}
 use Rattle.lane_model.specs.Lane.{chunks_in}
-use Rattle.plan_model.specs.Macros.{send, land_all, receive}
+use Rattle.pair_model.specs.Macros.{send, land_all, receive}
 use Rattle.step_list.specs.Compact.{lines_with}
 use Rattle.pair_settings.specs.Settings.{pair_with}
 use Rattle.pair_settings.specs.declared.settings.SideKey.TheVariants.{Size}

@@ -2,7 +2,7 @@
 
 ghost use Rattle.std.specs.Prelude.{◌≡◌, ◌∷◌, [], ◌<◌, ◌^◌, length, count_by, IfOk, OnOk};
 ghost use Rattle.step_kinds.specs.Sides.{same_lane, same_side};
-ghost use Rattle.plan_model.specs.TrafficPlans.{is_break_of};
+ghost use Rattle.pair_model.specs.TrafficPlans.{is_break_of};
 ghost use Rattle.step_kinds.specs.FrameLists.{no_frames};
 ghost use Rattle.traffic_plan.specs.Lanes.{frames_on, with_frames};
 

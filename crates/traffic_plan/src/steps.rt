@@ -1,7 +1,7 @@
 //! Steps of a frame of a load, as the macros of a script.
 
 ghost use Rattle.std.specs.Prelude.{◌≡◌, ◌∷◌, ◌++◌, [], OnOk};
-ghost use Rattle.plan_model.specs.Macros.{send, land_all, receive};
+ghost use Rattle.pair_model.specs.Macros.{send, land_all, receive};
 ghost use Rattle.step_list.specs.Compact.{steps_of, lines_with};
 ghost use Rattle.step_kinds.specs.declared.names.Side.TheVariants.{A, B};
 ghost use Rattle.step_kinds.specs.declared.steps.Step.TheVariants.{Land};

@@ -10,9 +10,9 @@ use Rattle.stream_model.specs.Receiver.{Receiver}
 use Rattle.stream_model.specs.Sender.{Sender, after_answer, after_next_frame, frames_of, given_back, next_frame, one_given, session_frames}
 use Rattle.table_lane.specs.SendAnswers.{Sends}
 use Rattle.table_lane.specs.declared.send.SendAnswer.TheVariants.{Sent, NoRoom, Cut}
-use Rattle.table_rule.specs.declared.parts.SendPart.{SendPart}
-use Rattle.table_rule.specs.Knowledge.{link_loaded, index_loaded, head, free_by, frame_sent}
-use Rattle.table_rule.specs.Words.{cut_word}
+use Rattle.table_lane.specs.declared.parts.SendPart.{SendPart}
+use Rattle.table_lane.specs.Knowledge.{link_loaded, index_loaded, head, free_by, frame_sent}
+use Rattle.table_lane.specs.Words.{cut_word}
 use Rattle.cluster_run.specs.stream.Ends.{GoesOn, HasOffered}
 use Rattle.cluster_run.specs.stream.Sessions.{CanBegin}
 

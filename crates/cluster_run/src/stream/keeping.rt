@@ -2,7 +2,7 @@
 
 ghost use Rattle.std.specs.Prelude.{◌≡◌, ◌+◌, ◌-◌, ◌≤◌, ◌<◌, ◌^◌, ◌++◌, ◌∷◌, [], if◌then◌else◌, length, fold, IfOk, OnOk, OnErr};
 ghost use Rattle.stream_model.specs.Receiver.{Receiver, ack_frame, taken};
-ghost use Rattle.table_rule.specs.ShownLane.{most_lane_frames};
+ghost use Rattle.table_lane.specs.ShownLane.{most_lane_frames};
 ghost use Rattle.lane_workers.specs.Passes.{LetsTurns};
 ghost use Rattle.cluster_run.specs.stream.Ends.{Grows};
 

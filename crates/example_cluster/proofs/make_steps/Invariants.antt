@@ -1,5 +1,5 @@
 use Rattle.std.proofs.Common.{◌≡◌}
-use Rattle.plan_model.specs.PlanParts.{declared_part}
+use Rattle.pair_model.specs.PlanParts.{declared_part}
 use Rattle.cluster_core.specs.Cluster.{plan_held}
 use Rattle.example_cluster.proofs.make_steps.Given as goal
 

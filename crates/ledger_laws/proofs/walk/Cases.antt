@@ -14,27 +14,27 @@ use Rattle.step_kinds.specs.declared.steps.Answer.{Answer}
 use Rattle.step_kinds.specs.declared.steps.Answer.TheVariants.{Ok as Done, OkSession, OkNumber, LinkDown, Already, Offered, NotYet, Version, Queues, Windows, Up, NotChecked, NotReady, Joined, Closed, TooLong, Busy, Stopped, Again, Idle, Posted, Nothing as NothingThere, Blocked, Landed, OutOfTurn, Empty, PeerDown, ReadyFrame, Copied as CopiedPart, Delivered, Cleared as ClearedFrame, Acked, Awake, Irq, Mem, PadValue, QueueShown, VerDiffers, Long}
 use Rattle.lane_model.specs.Lane.{Entry, GoesDown, chunks_in}
 use Rattle.lane_model.specs.declared.Phase.TheVariants.{Copying, Copied, Cleared, Idle as IsIdle}
-use Rattle.plan_model.specs.Both.{both_of, with_side, at_side}
+use Rattle.pair_model.specs.Both.{both_of, with_side, at_side}
 use Rattle.ledger_model.specs.Handshake.{pad_in, refuse_larger, refuse_differing, check_refusal, offer_step, check_step, ready_step, join_step}
-use Rattle.plan_model.specs.Pads.{offers, pad_index, first_larger, versions_differ, links_pad, queues_pad, version_pad, windows_pad}
-use Rattle.plan_model.specs.Plans.{side_plan}
-use Rattle.plan_model.specs.Sizes.{Sizes, pieces_in}
-use Rattle.plan_model.specs.Ethernet.{ethernet_frame}
-use Rattle.byte_model.specs.Headers.{Found, NoEntry, ALinkDownEntry, AnotherVersion, TooManyBytes, AnEntry}
+use Rattle.pair_model.specs.Pads.{offers, pad_index, first_larger, versions_differ, links_pad, queues_pad, version_pad, windows_pad}
+use Rattle.pair_model.specs.Plans.{side_plan}
+use Rattle.pair_model.specs.Sizes.{Sizes, pieces_in}
+use Rattle.pair_model.specs.Ethernet.{ethernet_frame}
+use Rattle.pair_model.specs.Headers.{Found, NoEntry, ALinkDownEntry, AnotherVersion, TooManyBytes, AnEntry}
 use Rattle.ledger_model.specs.Labels.{labels_of}
 use Rattle.ledger_model.specs.Reading.{Reading}
 use Rattle.order_rules.specs.Order.{may_land}
-use Rattle.plan_model.specs.Orders.{order_of}
+use Rattle.pair_model.specs.Orders.{order_of}
 use Rattle.ledger_laws.specs.Laws.{is_link_down}
 use Rattle.ledger_model.specs.Ledger.{PairPart, LanePart, SidePart, side_of, lane_of, lane_to, dev_of, link_up, posts, with_lane, with_dev, with_side_part, head_in}
-use Rattle.plan_model.specs.Link.{enable_refusal, enabled_link, train_refusal, trained_link, cut_refusal, cut_link, drop_refusal, dropped_link, clean_refusal, cleaned_link}
+use Rattle.pair_model.specs.Link.{enable_refusal, enabled_link, train_refusal, trained_link, cut_refusal, cut_link, drop_refusal, dropped_link, clean_refusal, cleaned_link}
 use Rattle.ledger_model.specs.LinkSteps.{answer_of_refusal, enable_step, train_step, break_step, drop_step, clean_step, fresh_lane, emptied_side, cleaned_side, forgotten_lanes, started_dev}
 use Rattle.ledger_model.specs.Outcome.{Outcome, decided, refuse_if}
 use Rattle.ledger_model.specs.Receiving.{lands_on, taken_out, land_found, land_step, closes, look_at, look_step, copy_of, copy_step, clear_step, ack_step, is_idle, is_copying, is_copied, is_cleared, counts_delivered}
 use Rattle.ledger_model.specs.Sending.{is_empty_list, is_busy, refuse_sender, refuse_long, refuse_busy, refuse_full, begin_refusal, xbegin_refusal, begun, begun_lane, with_next, begin_step, qpdown_step, xbegin_step, counts_refused, counts_sent, posts_through, post_first, post_step, wake_step, flow_of}
-use Rattle.plan_model.specs.Device.{stays_stopped}
-use Rattle.plan_model.specs.declared.LinkRefusal.{LinkRefusal}
-use Rattle.plan_model.specs.declared.LinkRefusal.TheVariants.{NotDown}
+use Rattle.pair_model.specs.Device.{stays_stopped}
+use Rattle.pair_model.specs.declared.LinkRefusal.{LinkRefusal}
+use Rattle.pair_model.specs.declared.LinkRefusal.TheVariants.{NotDown}
 use Rattle.ledger_laws.proofs.Outcomes.{Each, Nothing, Just, each_if, decided_cases, passed}
 
 -- the answers to a step that was refused

@@ -20,9 +20,9 @@ use Rattle.ledger_model.specs.Labels.{write_of}
 use Rattle.ledger_model.specs.Ledger.{LanePart, PairPart, side_of, lane_of, with_lane}
 use Rattle.ledger_model.specs.Receiving.{taken_out}
 use Rattle.ledger_model.specs.Rings.{with_write, with_index}
-use Rattle.plan_model.specs.Plans.{pair_plan}
+use Rattle.pair_model.specs.Plans.{pair_plan}
 use Rattle.order_rules.specs.Order.{may_land}
-use Rattle.plan_model.specs.Orders.{order_of}
+use Rattle.pair_model.specs.Orders.{order_of}
 use Rattle.ledger_laws.specs.LaneChanges.{Unchanged, WriteLands, IndexLands, change_by_write, change_by_index}
 use Rattle.ledger_laws.proofs.walk.Cases.{landed}
 use Rattle.ledger_laws.proofs.walk.Sight.{Sight, Role, Sender, Receiver, peer_of, end_at, with_pads, side_at, by_role, sight, OtherQueue, OtherWay, other_other, is_off, sight-side, sight-lane, sight-off, with_number, PendingBells}

@@ -13,7 +13,7 @@ use Rattle.ledger_model.specs.Labels.{write_of, index_of}
 use Rattle.ledger_model.specs.Ledger.{LanePart}
 use Rattle.ledger_model.specs.Log.{Answered, Numbered, takes_room, gives_room, trains, breaks, accepts, delivers, saw_empty, pad_after}
 use Rattle.ledger_model.specs.Rings.{RingPart, ring_next, with_write, without_header}
-use Rattle.plan_model.specs.Sizes.{Sizes}
+use Rattle.pair_model.specs.Sizes.{Sizes}
 use Rattle.ledger_laws.specs.LaneChanges.{LaneChange, Unchanged, EntryIsBegun, change_by_write, change_by_index, change_of}
 use Rattle.ledger_laws.proofs.walk.Sight.{Role, Sender, Receiver, side_at}
 

@@ -21,10 +21,10 @@ use Rattle.ledger_model.specs.Reading.{Reading, by_bytes, by_ledger, reading_of}
 use Rattle.lane_model.specs.Lane.{Entry}
 use Rattle.step_kinds.specs.declared.plan.PairPlan.{PairPlan}
 use Rattle.step_kinds.specs.declared.steps.Label.{Label}
-use Rattle.plan_model.specs.Plans.{dev_plan, pair_plan}
-use Rattle.plan_model.specs.Sizes.{sizes_of}
-use Rattle.plan_model.specs.Ethernet.{ethernet_frame}
-use Rattle.byte_model.specs.Headers.{Bytes}
+use Rattle.pair_model.specs.Plans.{dev_plan, pair_plan}
+use Rattle.pair_model.specs.Sizes.{sizes_of}
+use Rattle.pair_model.specs.Ethernet.{ethernet_frame}
+use Rattle.pair_model.specs.Headers.{Bytes}
 use Rattle.ledger_laws.proofs.LogGrowth.{made_by, left_by}
 use Rattle.ledger_laws.proofs.walk.Cases.{enable_cases, train_cases, break_cases, drop_cases, clean_cases, offer_cases, check_cases, ready_cases, join_cases, begin_cases, qpdown_cases, xbegin_cases, post_cases, land_cases, look_cases, copy_cases, clear_cases, ack_cases, wake_cases, sent_frame}
 use Rattle.ledger_laws.proofs.walk.Sight.{Sight, Role, Sender, Receiver, sight, sight-posts, sight-posts_raw}

@@ -13,7 +13,7 @@ use Rattle.step_kinds.specs.declared.steps.Label.{Label}
 use Rattle.step_kinds.specs.declared.steps.Label.TheVariants.{Index}
 use Rattle.step_kinds.specs.declared.steps.Step.TheVariants.{Look, Copy, Clear, Ack}
 use Rattle.lane_model.specs.Lane.{Entry, Carries, GoesDown, chunks_in}
-use Rattle.byte_model.specs.Headers.{Found, NoEntry, AnEntry}
+use Rattle.pair_model.specs.Headers.{Found, NoEntry, AnEntry}
 use Rattle.ledger_model.specs.Reading.{Reading, found_entry, found_in_ledger, part_in_ledger}
 use Rattle.ledger_model.specs.Sending.{posts_through}
 use Rattle.ledger_laws.proofs.walk.Turn.{IsRaw, IsPiece, Strays, CopiesEntry, on_queue}

@@ -22,8 +22,8 @@ use Rattle.ledger_model.specs.Labels.{label_of, labels_of, write_of, index_of}
 use Rattle.ledger_model.specs.Ledger.{LanePart, PairPart, free_of, lane_of, posts, with_lane, updated}
 use Rattle.ledger_model.specs.Log.{is_on}
 use Rattle.ledger_model.specs.Sending.{begun, begun_lane, frame_begun}
-use Rattle.plan_model.specs.Plans.{pair_plan}
-use Rattle.plan_model.specs.Sizes.{Sizes, sizes_of}
+use Rattle.pair_model.specs.Plans.{pair_plan}
+use Rattle.pair_model.specs.Sizes.{Sizes, sizes_of}
 use Rattle.ledger_laws.specs.LaneChanges.{WriteIsPosted}
 use Rattle.ledger_laws.proofs.walk.Cases.{MaySend, needs, closing, posted_by}
 use Rattle.ledger_laws.proofs.walk.Sight.{Sight, Sender, Receiver, posted, sight, IsOff, OffCase, OtherQueue, OtherWay, by_lane, sight-side, sight-posts, sight-lane, sight-off, sight-tally, sight-tally_off}

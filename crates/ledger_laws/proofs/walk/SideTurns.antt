@@ -15,14 +15,14 @@ use Rattle.step_kinds.specs.declared.steps.Label.TheVariants.{Pad}
 use Rattle.step_kinds.specs.declared.steps.Step.{Step}
 use Rattle.step_kinds.specs.declared.steps.Step.TheVariants.{Enable, Train, Break, DropDone, Clean, Offer, Check, Ready, Join, Irq}
 use Rattle.ledger_model.specs.Handshake.{pad_in, check_refusal}
-use Rattle.plan_model.specs.Pads.{offers, pad_index}
+use Rattle.pair_model.specs.Pads.{offers, pad_index}
 use Rattle.ledger_model.specs.Ledger.{PairPart, side_of, link_up, posts, with_side_part}
-use Rattle.plan_model.specs.Link.{is_down, enabled_link, enable_refusal, train_refusal, cut_refusal, drop_refusal, clean_refusal}
+use Rattle.pair_model.specs.Link.{is_down, enabled_link, enable_refusal, train_refusal, cut_refusal, drop_refusal, clean_refusal}
 use Rattle.ledger_model.specs.LinkSteps.{fresh_lane}
-use Rattle.plan_model.specs.declared.LinkState.TheVariants.{Down as LinkIsDown, Up as LinkIsUp}
-use Rattle.plan_model.specs.declared.LinkRefusal.TheVariants.{NotDown, Dirty, NotEnabled, NotUp, NotClosing}
-use Rattle.plan_model.specs.Pads.{links_pad}
-use Rattle.plan_model.specs.Plans.{pair_plan, side_plan}
+use Rattle.pair_model.specs.declared.LinkState.TheVariants.{Down as LinkIsDown, Up as LinkIsUp}
+use Rattle.pair_model.specs.declared.LinkRefusal.TheVariants.{NotDown, Dirty, NotEnabled, NotUp, NotClosing}
+use Rattle.pair_model.specs.Pads.{links_pad}
+use Rattle.pair_model.specs.Plans.{pair_plan, side_plan}
 use Rattle.ledger_laws.specs.Laws.{IsOrdinaryOn}
 use Rattle.ledger_laws.proofs.Offers.{offer-is_pad, offer-no_link}
 use Rattle.ledger_laws.proofs.Outcomes.{passed, refused_passed}

@@ -7,10 +7,10 @@ use Rattle.step_kinds.specs.Sides.{other_side, same_side}
 use Rattle.step_kinds.specs.declared.names.Side.{Side}
 use Rattle.step_kinds.specs.declared.names.Side.TheVariants.{A, B}
 use Rattle.step_kinds.specs.declared.steps.Label.{Label}
-use Rattle.plan_model.specs.Both.{at_side}
+use Rattle.pair_model.specs.Both.{at_side}
 use Rattle.ledger_model.specs.Ledger.{LanePart, SidePart, PairPart, Tally, side_of, lane_of, tally_of, posts, posts_raw, with_side_part, with_lane, with_tally, updated}
-use Rattle.plan_model.specs.Link.{is_up}
-use Rattle.plan_model.specs.declared.LinkState.{LinkState}
+use Rattle.pair_model.specs.Link.{is_up}
+use Rattle.pair_model.specs.declared.LinkState.{LinkState}
 
 -- An end of the lane: its side, but for the bytes of raw writes, and what the link says of that side.
 pub record End : Type 0 where

@@ -19,9 +19,9 @@ use Rattle.ledger_model.specs.Labels.{write_of, index_of}
 use Rattle.ledger_model.specs.Ledger.{LanePart}
 use Rattle.ledger_model.specs.Log.{Answered, takes_room, gives_room, trains, breaks, accepts, delivers, is_on}
 use Rattle.ledger_model.specs.Rings.{RingPart, ring_next, with_write, with_index}
-use Rattle.plan_model.specs.Plans.{dev_plan, pair_plan}
-use Rattle.plan_model.specs.Sizes.{Sizes, sizes_of, pieces_in}
-use Rattle.plan_model.specs.Ethernet.{ethernet_frame}
+use Rattle.pair_model.specs.Plans.{dev_plan, pair_plan}
+use Rattle.pair_model.specs.Sizes.{Sizes, sizes_of, pieces_in}
+use Rattle.pair_model.specs.Ethernet.{ethernet_frame}
 use Rattle.ledger_laws.specs.LaneChanges.{LaneChange, change_by_write, change_by_index, Unchanged, LinkIsLost, FlightIsDropped, EntryIsBegun, WriteIsPosted, EntryIsFound, PartIsCopied, FlagsAreCleared, IndexIsPosted, change_of}
 use Rattle.ledger_laws.proofs.walk.Cases.{refuses}
 use Rattle.ledger_laws.proofs.walk.News.{News, no_news, Tells, saw_next, pad_next, looked_news, begun_news, change_heard, pads_landed, ring_checked, ring_cleared, sees_taken}

@@ -21,20 +21,20 @@ use Rattle.lane_model.specs.declared.Phase.TheVariants.{Idle, Copying, Copied, C
 use Rattle.lane_model.specs.declared.Write.{Write}
 use Rattle.lane_model.specs.declared.Write.TheVariants.{Data, Flag as EntryFlag}
 use Rattle.ledger_model.specs.Handshake.{check_refusal}
-use Rattle.plan_model.specs.Pads.{offers}
+use Rattle.pair_model.specs.Pads.{offers}
 use Rattle.ledger_model.specs.Labels.{labels_of, write_of, index_of}
 use Rattle.ledger_model.specs.Ledger.{LanePart, Tally, entry_in, free_of, updated}
-use Rattle.plan_model.specs.Link.{is_up, is_down, is_closing}
+use Rattle.pair_model.specs.Link.{is_up, is_down, is_closing}
 use Rattle.ledger_model.specs.LinkSteps.{fresh_lane}
 use Rattle.ledger_model.specs.Log.{Answered}
 use Rattle.ledger_model.specs.Receiving.{is_idle, is_copying, is_copied, is_cleared}
 use Rattle.ledger_model.specs.Sending.{begun_lane, frame_begun}
-use Rattle.plan_model.specs.declared.LinkState.TheVariants.{Down as LinkIsDown, Up as LinkIsUp, Closing}
-use Rattle.plan_model.specs.Pads.{links_pad}
-use Rattle.plan_model.specs.Plans.{pair_plan, side_plan}
-use Rattle.plan_model.specs.Sizes.{Sizes, sizes_of, pieces_in}
+use Rattle.pair_model.specs.declared.LinkState.TheVariants.{Down as LinkIsDown, Up as LinkIsUp, Closing}
+use Rattle.pair_model.specs.Pads.{links_pad}
+use Rattle.pair_model.specs.Plans.{pair_plan, side_plan}
+use Rattle.pair_model.specs.Sizes.{Sizes, sizes_of, pieces_in}
 use Rattle.order_rules.specs.Order.{may_land}
-use Rattle.plan_model.specs.Orders.{order_of}
+use Rattle.pair_model.specs.Orders.{order_of}
 use Rattle.ledger_laws.specs.LaneChanges.{LaneChange, LinkIsLost, FlightIsDropped, EntryIsBegun, WriteIsPosted, WriteLands, IndexLands, EntryIsFound, PartIsCopied, FlagsAreCleared, IndexIsPosted}
 use Rattle.ledger_laws.specs.Laws.{IsOrdinaryOn}
 use Rattle.ledger_laws.proofs.walk.Sight.{End, Sight, Role, Sender, Receiver, peer_of, end_at, on_sender, on_receiver, with_up, with_pads, with_flight, with_clean, with_enabled, side_at, posted, with_number, ReadyQueues, JoinedQueues, ClosedQueues, OffersMade, PendingBells, MaskedBells}

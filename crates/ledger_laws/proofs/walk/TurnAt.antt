@@ -10,7 +10,7 @@ use Rattle.ledger_laws.proofs.walk.Cases.{Refused}
 use Rattle.ledger_laws.proofs.walk.Sight.{Sight, sight}
 use Rattle.ledger_laws.proofs.walk.Turn.{IsRaw, Turned, turned, Rests}
 use Rattle.ledger_model.specs.Reading.{Reading, by_ledger}
-use Rattle.plan_model.specs.Plans.{pair_plan}
+use Rattle.pair_model.specs.Plans.{pair_plan}
 use Rattle.step_kinds.specs.declared.names.Side.{Side}
 use Rattle.step_kinds.specs.declared.steps.Label.{Label}
 use Rattle.std.proofs.lemmas.Bool.{both_ways, cases_Bool}

@@ -1,5 +1,5 @@
 use Rattle.std.proofs.Common.{◌≡◌, length, map, take}
-use Rattle.switch_model.specs.Switch.{new_switch}
+use Rattle.pair_model.specs.Switch.{new_switch}
 use Rattle.cluster_core.proofs.plans.new_switches.Given as goal
 
 abbrev pub invariant-loop-plan : goal.invariant-loop-plan

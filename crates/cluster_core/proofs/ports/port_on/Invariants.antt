@@ -1,5 +1,5 @@
 use Rattle.std.proofs.Common.{◌≡◌, drop}
-use Rattle.switch_log.specs.Ports.{port_from}
+use Rattle.ledger_model.specs.Ports.{port_from}
 use Rattle.cluster_core.proofs.ports.port_on.Given as goal
 
 abbrev pub invariant-loop-switch : goal.invariant-loop-switch

@@ -1,6 +1,6 @@
 use Rattle.std.proofs.Common.{◌≡◌, map, count_by}
 use Rattle.std.specs.List.{range_with_len}
-use Rattle.plan_model.specs.TrafficPlans.{is_break_of}
+use Rattle.pair_model.specs.TrafficPlans.{is_break_of}
 use Rattle.cluster_run.proofs.task_list.losses_by_pair.Given as goal
 
 abbrev pub invariant-loop-pair : goal.invariant-loop-pair

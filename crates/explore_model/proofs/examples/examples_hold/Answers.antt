@@ -6,7 +6,7 @@ use Rattle.step_kinds.specs.declared.names.Side.TheVariants.{A}
 use Rattle.step_kinds.specs.declared.steps.Step.TheVariants.{Begin, Post, ShowQueue}
 use Rattle.explore_model.specs.Examples.{NoOtherLands, in_flight, landed, landing, plan, script}
 use Rattle.explore_model.specs.Outcomes.{IsOutcome}
-use Rattle.switch_log.specs.Log.{answer_after}
+use Rattle.ledger_model.specs.NetworkLog.{answer_after}
 use Rattle.explore_model.specs.Schedules.{begun, lands, goes_on, landing_step}
 use Rattle.explore_model.specs.declared.outcome.Landing.{Landing}
 use Rattle.explore_model.proofs.examples.examples_hold.Goals as goal

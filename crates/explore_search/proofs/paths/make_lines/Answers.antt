@@ -1,8 +1,8 @@
 use Rattle.std.proofs.Common.{◌∙◌, ◌++◌, List, append-nil, append_assoc, ap, arith, get_or, refl, subst, sym}
-use Rattle.plan_model.specs.PlanParts.{steps_in}
+use Rattle.pair_model.specs.PlanParts.{steps_in}
 use Rattle.step_kinds.specs.declared.plan.Plan.{Plan}
 use Rattle.step_kinds.specs.declared.steps.Step.{Step}
-use Rattle.plan_model.specs.Switches.{IsMakeable}
+use Rattle.pair_model.specs.Switches.{IsMakeable}
 use Rattle.explore_search.specs.Paths.{between}
 use Rattle.explore_search.proofs.AlongPaths.{between_end, between_none, lines_more}
 use Rattle.explore_search.proofs.paths.make_lines.Goals as goal

@@ -1,5 +1,5 @@
 use Rattle.std.proofs.Common.{◌≡◌, ◌≤◌, ◌++◌, List}
-use Rattle.plan_model.specs.PlanParts.{steps_in}
+use Rattle.pair_model.specs.PlanParts.{steps_in}
 use Rattle.step_kinds.specs.declared.plan.Plan.{Plan}
 use Rattle.step_kinds.specs.declared.steps.Step.{Step}
 use Rattle.explore_search.specs.Paths.{between}

@@ -1,9 +1,9 @@
 use Rattle.std.proofs.Common.{◌∙◌, ◌≤◌, ℕ, List, [], ◌∷◌, ◌++◌, ap, arith, get_or, length, subst, sym, take}
-use Rattle.plan_model.specs.PlanParts.{steps_in}
+use Rattle.pair_model.specs.PlanParts.{steps_in}
 use Rattle.step_kinds.specs.declared.names.Side.TheVariants.{A}
 use Rattle.step_kinds.specs.declared.plan.Line.{Line}
 use Rattle.step_kinds.specs.declared.steps.Step.{Step}
-use Rattle.plan_model.specs.Switches.{IsMakeable}
+use Rattle.pair_model.specs.Switches.{IsMakeable}
 use Rattle.explore_model.specs.declared.outcome.Landing.{Landing}
 use Rattle.explore_search.specs.Paths.{Walked, between, script_of, walked}
 use Rattle.explore_search.proofs.AlongPaths.{path_of_walked, walked_more}

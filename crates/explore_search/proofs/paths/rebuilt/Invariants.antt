@@ -1,5 +1,5 @@
 use Rattle.std.proofs.Common.{◌≡◌, take}
-use Rattle.plan_model.specs.PlanParts.{declared_part}
+use Rattle.pair_model.specs.PlanParts.{declared_part}
 use Rattle.explore_search.specs.Paths.{script_of, walked}
 use Rattle.explore_search.proofs.paths.rebuilt.Given as goal
 

@@ -7,10 +7,10 @@ use Rattle.bridge_pair.specs.Bridge.{Bridge, pages_of}
 use Rattle.bridge_pair.specs.Calls.{HasPages}
 use Rattle.bridge_pair.specs.Flights.{arrival_of}
 use Rattle.bridge_pair.specs.Writes.{PostedWrite, memory_write}
-use Rattle.byte_model.specs.Addresses.{peer_address}
+use Rattle.pair_model.specs.Addresses.{peer_address}
 use Rattle.host_memory.specs.Memory.{ArePromised}
-use Rattle.plan_model.specs.Link.{is_up}
-use Rattle.plan_model.specs.Plans.{side_plan}
+use Rattle.pair_model.specs.Link.{is_up}
+use Rattle.pair_model.specs.Plans.{side_plan}
 use Rattle.fabric_core.specs.Promises.{HasMorePages}
 use Rattle.fabric_core.proofs.MorePages.{more_pages, on_err, posted_more}
 use Rattle.fabric_core.proofs.bridge_steps.poke.Goals as goal

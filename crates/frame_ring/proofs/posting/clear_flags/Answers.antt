@@ -1,6 +1,6 @@
 use Rattle.std.proofs.Common.{◌≡◌, ◌∙◌, ◌+◌, ℕ, ap, sym, subst}
-use Rattle.byte_model.specs.Addresses.{own_header}
-use Rattle.byte_model.specs.Headers.{flags_offset}
+use Rattle.pair_model.specs.Addresses.{own_header}
+use Rattle.pair_model.specs.Headers.{flags_offset}
 use Rattle.host_memory.specs.Memory.{ArePromised}
 use Rattle.step_kinds.specs.declared.names.Side.{Side}
 use Rattle.bridge_pair.specs.Bridge.{pages_of}

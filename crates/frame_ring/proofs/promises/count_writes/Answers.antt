@@ -1,8 +1,8 @@
 use Rattle.std.proofs.Common.{◌≡◌, ◌∙◌, ◌+◌, [], ap, length, drop, refl, arith}
 use Rattle.std.proofs.lemmas.List.{drop_all}
 use Rattle.lane_model.specs.Lane.{chunks_in}
-use Rattle.plan_model.specs.Pieces.{pieces_of}
-use Rattle.plan_model.specs.Sizes.{pieces_in}
+use Rattle.pair_model.specs.Pieces.{pieces_of}
+use Rattle.pair_model.specs.Sizes.{pieces_in}
 use Rattle.frame_ring.specs.Outgoing.{all_writes_in, entry_at, writes_in}
 use Rattle.frame_ring.proofs.Entries.{entry_and_others, length-pieces_of}
 use Rattle.frame_ring.proofs.EntryPages.{piece_length}

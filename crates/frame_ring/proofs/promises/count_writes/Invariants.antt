@@ -1,5 +1,5 @@
 use Rattle.std.proofs.Common.{◌≡◌, ◌+◌, ◌*◌, ◌≤◌, drop}
-use Rattle.plan_model.specs.Pieces.{pieces_of}
+use Rattle.pair_model.specs.Pieces.{pieces_of}
 use Rattle.frame_ring.specs.Outgoing.{all_writes_in}
 use Rattle.frame_ring.proofs.promises.count_writes.Given as goal
 

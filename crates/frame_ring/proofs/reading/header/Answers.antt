@@ -1,7 +1,7 @@
 use Rattle.std.proofs.Common.{◌≡◌, ◌∙◌, true, false, sym, arith}
-use Rattle.byte_model.specs.Addresses.{own_header}
-use Rattle.byte_model.specs.Headers.{word_at}
-use Rattle.plan_model.specs.Sizes.{header_bytes}
+use Rattle.pair_model.specs.Addresses.{own_header}
+use Rattle.pair_model.specs.Headers.{word_at}
+use Rattle.pair_model.specs.Sizes.{header_bytes}
 use Rattle.frame_ring.specs.PortView.{bytes_seen}
 use Rattle.frame_ring.proofs.HeaderWords.{header_on_five, header_on_four, header_size}
 use Rattle.frame_ring.proofs.reading.header.Goals as goal

@@ -1,6 +1,6 @@
 use Rattle.std.proofs.Common.{◌∙◌, ◌*◌, ap, sym, length, take, drop, arith}
 use Rattle.lane_model.specs.Lane.{bytes_of}
-use Rattle.plan_model.specs.Sizes.{pieces_in}
+use Rattle.pair_model.specs.Sizes.{pieces_in}
 use Rattle.frame_ring.specs.Outgoing.{entries_under, entry_at}
 use Rattle.frame_ring.proofs.Entries.{length-pieces_of, piece_at}
 use Rattle.frame_ring.proofs.sending.payload_of.Goals as goal

@@ -1,6 +1,6 @@
 use Rattle.std.proofs.Common.{nat_lt, ◌≤◌, ◌∙◌, arith}
 use Rattle.std.proofs.lemmas.Bool.Decides.{nat_tests}
-use Rattle.plan_model.specs.Pads.{size_in}
+use Rattle.pair_model.specs.Pads.{size_in}
 use Rattle.bridge_pair.specs.Bridge.{pads_of}
 use Rattle.hand_shake.proofs.SizeSearch.{next_size}
 use Rattle.hand_shake.proofs.checks.size_answer.Goals as goal

@@ -1,6 +1,6 @@
 use Rattle.std.proofs.Common.{◌≡◌, ◌-◌, find, nat_lt}
 use Rattle.lane_model.specs.Lane.{count_from}
-use Rattle.plan_model.specs.Pads.{first_larger, size_in}
+use Rattle.pair_model.specs.Pads.{first_larger, size_in}
 use Rattle.bridge_pair.specs.Bridge.{pads_of}
 use Rattle.hand_shake.proofs.checks.size_answer.Given as goal
 

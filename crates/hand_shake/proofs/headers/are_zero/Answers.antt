@@ -1,5 +1,5 @@
 use Rattle.std.proofs.Common.{◌∙◌, ◌-◌, ◌≤◌, sym, subst, arith}
-use Rattle.plan_model.specs.DeclaredPlans.{IsPair}
+use Rattle.pair_model.specs.DeclaredPlans.{IsPair}
 use Rattle.plan_numbers.specs.Memories.{WindowsFit}
 use Rattle.step_kinds.specs.declared.plan.PairPlan.{PairPlan}
 use Rattle.ring_geometry.specs.Geometry.{Layout, entries_of}

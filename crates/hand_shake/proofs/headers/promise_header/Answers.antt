@@ -1,5 +1,5 @@
 use Rattle.std.proofs.Common.{◌≡◌, ◌∙◌, ◌<◌, ap, subst}
-use Rattle.plan_model.specs.Sizes.{header_bytes, layout_to}
+use Rattle.pair_model.specs.Sizes.{header_bytes, layout_to}
 use Rattle.ring_geometry.specs.Geometry.{Layout, entries_of}
 use Rattle.bridge_pair.specs.Bridge.{bytes_of}
 use Rattle.hand_shake.proofs.HeaderPages.{at_same, one_grows, one_promised}

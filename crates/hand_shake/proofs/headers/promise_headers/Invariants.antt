@@ -1,5 +1,5 @@
 use Rattle.std.proofs.Common.{◌≡◌, ℕ, ◌<◌}
-use Rattle.plan_model.specs.Plans.{side_plan}
+use Rattle.pair_model.specs.Plans.{side_plan}
 use Rattle.bridge_pair.specs.Bridge.{bytes_of, pages_of}
 use Rattle.bridge_pair.specs.Pages.{OnlyPagesGrow}
 use Rattle.hand_shake.specs.Headers.{AreHeadersOfReady, TouchesHeader}

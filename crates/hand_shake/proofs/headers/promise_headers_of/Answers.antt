@@ -1,12 +1,12 @@
 use Rattle.std.proofs.Common.{◌≡◌, ◌∙◌, ℕ, ◌-◌, ◌<◌, inl, ap, sym, subst, arith}
-use Rattle.byte_model.specs.Addresses.{own_header}
+use Rattle.pair_model.specs.Addresses.{own_header}
 use Rattle.host_memory.specs.Memory.{ArePromised}
-use Rattle.plan_model.specs.Sizes.{header_bytes, layout_to}
+use Rattle.pair_model.specs.Sizes.{header_bytes, layout_to}
 use Rattle.ring_geometry.specs.Geometry.{Layout, entries_of}
 use Rattle.bridge_pair.specs.Bridge.{Bridge, bytes_of, pages_of}
 use Rattle.bridge_pair.specs.Pages.{PagesGrow}
 use Rattle.bridge_pair.proofs.Facade.{grows_nothing, pages_again}
-use Rattle.plan_model.specs.Plans.{side_plan}
+use Rattle.pair_model.specs.Plans.{side_plan}
 use Rattle.plan_numbers.specs.Memories.{WindowsFit}
 use Rattle.step_kinds.specs.declared.plan.PairPlan.{PairPlan}
 use Rattle.hand_shake.specs.Headers.{AreSomeZeroed, TouchesHeaderOf}

@@ -1,5 +1,5 @@
 use Rattle.std.proofs.Common.{ℕ, ◌-◌, ◌<◌, ◌≤◌}
-use Rattle.plan_model.specs.Sizes.{layout_to}
+use Rattle.pair_model.specs.Sizes.{layout_to}
 use Rattle.ring_geometry.specs.Geometry.{entries_of}
 use Rattle.bridge_pair.specs.Bridge.{bytes_of, pages_of}
 use Rattle.bridge_pair.specs.Pages.{OnlyPagesGrow}

@@ -1,6 +1,6 @@
 use Rattle.std.proofs.Common.{◌+◌, ◌*◌, ◌-◌, ◌<◌, ◌≤◌, length}
-use Rattle.byte_model.specs.Addresses.{own_header}
-use Rattle.plan_model.specs.Sizes.{header_bytes}
+use Rattle.pair_model.specs.Addresses.{own_header}
+use Rattle.pair_model.specs.Sizes.{header_bytes}
 use Rattle.bridge_pair.specs.Bridge.{bytes_of}
 use Rattle.hand_shake.specs.Headers.{AreSomeZeroed}
 use Rattle.hand_shake.proofs.headers.up_to_nonzero.Given as goal

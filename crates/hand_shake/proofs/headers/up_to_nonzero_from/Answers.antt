@@ -1,7 +1,7 @@
 use Rattle.std.proofs.Common.{◌≡◌, ◌∙◌, ℕ, ◌+◌, ◌-◌, ap, sym, subst, arith}
-use Rattle.byte_model.specs.Addresses.{own_header}
+use Rattle.pair_model.specs.Addresses.{own_header}
 use Rattle.host_memory.specs.Memory.{AreZero}
-use Rattle.plan_model.specs.Sizes.{header_bytes}
+use Rattle.pair_model.specs.Sizes.{header_bytes}
 use Rattle.bridge_pair.specs.Bridge.{bytes_of}
 use Rattle.hand_shake.specs.Headers.{IsZeroed}
 use Rattle.hand_shake.proofs.HeaderPages.{header_back}

@@ -1,7 +1,7 @@
 use Rattle.std.proofs.Common.{◌≡◌, ◌∙◌, ap, sym, subst, arith}
-use Rattle.byte_model.specs.Addresses.{own_header}
-use Rattle.plan_model.specs.DeclaredPlans.{IsPair}
-use Rattle.plan_model.specs.Sizes.{header_bytes}
+use Rattle.pair_model.specs.Addresses.{own_header}
+use Rattle.pair_model.specs.DeclaredPlans.{IsPair}
+use Rattle.pair_model.specs.Sizes.{header_bytes}
 use Rattle.bridge_pair.specs.Bridge.{pages_of}
 use Rattle.hand_shake.proofs.HeaderPages.{at_same, few_bytes, zeros_over, zeros_promised, zeros_size}
 use Rattle.hand_shake.proofs.headers.zero_header.Goals as goal

@@ -1,7 +1,7 @@
 use Rattle.std.proofs.Common.{◌≡◌, ◌-◌}
 use Rattle.std.specs.List.{flat_map}
 use Rattle.lane_model.specs.Lane.{count_from}
-use Rattle.plan_model.specs.Plans.{side_plan}
+use Rattle.pair_model.specs.Plans.{side_plan}
 use Rattle.bridge_pair.specs.Bridge.{bytes_of, with_bytes}
 use Rattle.bridge_pair.specs.Ends.{bytes_after}
 use Rattle.hand_shake.specs.Headers.{ring_stores}

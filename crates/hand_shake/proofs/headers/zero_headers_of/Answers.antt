@@ -1,7 +1,7 @@
 use Rattle.std.proofs.Common.{◌≡◌, ℕ, ◌+◌, ◌-◌, ◌≤◌, inl, inr, length, replicate, sym, ap, ◌∙◌, subst, arith}
-use Rattle.byte_model.specs.Addresses.{own_header}
+use Rattle.pair_model.specs.Addresses.{own_header}
 use Rattle.host_memory.specs.Memory.{written}
-use Rattle.plan_model.specs.Sizes.{header_bytes, layout_to}
+use Rattle.pair_model.specs.Sizes.{header_bytes, layout_to}
 use Rattle.ring_geometry.specs.Geometry.{Layout, entries_of}
 use Rattle.bridge_pair.specs.Bridge.{Bridge, bytes_of, pages_of, with_bytes}
 use Rattle.bridge_pair.specs.Ends.{bytes_after}

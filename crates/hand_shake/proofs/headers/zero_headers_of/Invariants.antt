@@ -1,5 +1,5 @@
 use Rattle.std.proofs.Common.{◌≡◌, ◌-◌, ◌<◌, ◌≤◌}
-use Rattle.plan_model.specs.Sizes.{layout_to}
+use Rattle.pair_model.specs.Sizes.{layout_to}
 use Rattle.ring_geometry.specs.Geometry.{entries_of}
 use Rattle.bridge_pair.specs.Bridge.{bytes_of, with_bytes}
 use Rattle.bridge_pair.specs.Ends.{bytes_after}

@@ -1,5 +1,5 @@
 use Rattle.std.proofs.Common.{◌≡◌, ◌+◌, ◌-◌, ◌≤◌, ◌++◌, length, take, drop}
-use Rattle.table_rule.specs.LaneNames.{Idle}
+use Rattle.table_lane.specs.LaneNames.{Idle}
 use Rattle.lane_workers.proofs.receiving.recv_pass.Given as goal
 
 abbrev pub invariant-loop-made : goal.invariant-loop-made

@@ -1,5 +1,5 @@
 use Rattle.std.proofs.Common.{◌≡◌, length, drop, rules, sym, ◌∙◌}
-use Rattle.plan_model.specs.Ethernet.{ethernet_frame, ethernet_header}
+use Rattle.pair_model.specs.Ethernet.{ethernet_frame, ethernet_header}
 use Rattle.learn_switch.proofs.Headers.{destination-of, long-enough, source-of}
 use Rattle.learn_switch.proofs.switch.header_of.Goals as goal
 

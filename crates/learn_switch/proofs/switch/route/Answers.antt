@@ -1,5 +1,5 @@
 use Rattle.std.proofs.Common.{sym, ◌∙◌}
-use Rattle.switch_model.proofs.Facade.{found-port}
+use Rattle.pair_model.proofs.Facade.{found-port}
 use Rattle.learn_switch.proofs.switch.route.Goals as goal
 
 pub returns-in-Some-2-clause-below : goal.returns-in-Some-2-clause-below

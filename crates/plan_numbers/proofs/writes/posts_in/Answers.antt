@@ -1,6 +1,6 @@
 use Rattle.std.proofs.Common.{◌≡◌, ℕ, ◌+◌, ◌-◌, ◌*◌, min, map, sum, if◌then◌else◌, ap, ◌∙◌, sym, arith}
 use Rattle.lane_model.specs.Lane.{chunks_in, count_from}
-use Rattle.plan_model.specs.Sizes.{agreed_version, pieces_in, sizes_of}
+use Rattle.pair_model.specs.Sizes.{agreed_version, pieces_in, sizes_of}
 use Rattle.ring_geometry.specs.Geometry.{max_payload_of}
 use Rattle.plan_numbers.proofs.Posts.{posts_five, sum_counted_more}
 use Rattle.plan_numbers.proofs.writes.posts_in.Goals as goal

@@ -1,9 +1,9 @@
 use Rattle.std.proofs.Common.{◌≡◌, ◌+◌, ◌≤◌, length}
 use Rattle.std.specs.Option.{option_map_or}
 use Rattle.script_words.specs.Reads.{result_map}
-use Rattle.read_model.specs.Lines.{steps_of}
-use Rattle.read_model.specs.Path.{fresh_path}
-use Rattle.read_model.specs.Report.{made_lines}
+use Rattle.reads_command.specs.Lines.{steps_of}
+use Rattle.read_path.specs.Path.{fresh_path}
+use Rattle.reads_command.specs.Report.{made_lines}
 use Rattle.reads_command.specs.Replies.{reply_seen}
 use Rattle.reads_command.proofs.ReplyLemmas.{lines_left, text_left}
 use Rattle.reads_command.proofs.reply.reads_text.Given as goal

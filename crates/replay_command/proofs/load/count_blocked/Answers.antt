@@ -2,8 +2,8 @@ use Rattle.std.proofs.Common.{◌≡◌, ◌∙◌, ℕ, ◌+◌, [], List, ap, 
 use Rattle.std.specs.List.{All, flat_map, range_with_len}
 use Rattle.std.proofs.lemmas.List.Elements.{All-weaker}
 use Rattle.step_kinds.specs.declared.plan.Line.{Line}
-use Rattle.plan_model.specs.DeclaredPlans.{IsPermitted}
-use Rattle.plan_model.specs.Switches.{IsMakeable}
+use Rattle.pair_model.specs.DeclaredPlans.{IsPermitted}
+use Rattle.pair_model.specs.Switches.{IsMakeable}
 use Rattle.traffic_plan.specs.Load.{LoadGiven, frames_given, lines_of_frame, load_of, plan_of}
 use Rattle.traffic_plan.proofs.Facade.{frames_more, lines_permitted, load_is_whole}
 use Rattle.replay_command.specs.ReplaySteps.{HasKept, with_blocked}

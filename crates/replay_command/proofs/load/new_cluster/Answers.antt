@@ -1,9 +1,9 @@
 use Rattle.std.proofs.Common.{ap, sym, subst, arith}
-use Rattle.plan_model.specs.PlanParts.{declared_part}
+use Rattle.pair_model.specs.PlanParts.{declared_part}
 use Rattle.traffic_plan.proofs.Facade.{load_is_whole}
 use Rattle.traffic_plan.specs.Load.{load_of}
-use Rattle.plan_model.specs.DeclaredPlans.{IsDeclared}
-use Rattle.plan_model.specs.Switches.{AreSwitches}
+use Rattle.pair_model.specs.DeclaredPlans.{IsDeclared}
+use Rattle.pair_model.specs.Switches.{AreSwitches}
 use Rattle.replay_command.proofs.Reports.{new_replayed}
 use Rattle.replay_command.proofs.load.new_cluster.Goals as goal
 

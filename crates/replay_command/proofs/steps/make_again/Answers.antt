@@ -1,10 +1,10 @@
 use Rattle.std.proofs.Common.{◌≡◌, ◌∙◌, ◌+◌, ℕ, [], ◌∷◌, ◌++◌, List, replicate, sym, ap, subst, arith}
 use Rattle.std.proofs.lemmas.Result.{on_ok_weaker}
-use Rattle.plan_model.specs.PlanParts.{steps_in}
+use Rattle.pair_model.specs.PlanParts.{steps_in}
 use Rattle.step_kinds.specs.declared.plan.Line.{Line}
 use Rattle.step_kinds.specs.declared.plan.Plan.{Plan}
 use Rattle.step_kinds.specs.declared.steps.Step.{Step}
-use Rattle.plan_model.specs.Switches.{IsMakeable}
+use Rattle.pair_model.specs.Switches.{IsMakeable}
 use Rattle.step_list.specs.Compact.{lines_with, step_again}
 use Rattle.step_list.proofs.Facade.{repeats_more}
 use Rattle.cluster_core.specs.Cluster.{plan_held}

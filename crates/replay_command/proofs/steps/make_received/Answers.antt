@@ -4,7 +4,7 @@ use Rattle.std.proofs.lemmas.Result.{on_ok_weaker}
 use Rattle.step_kinds.specs.declared.plan.Line.{Line}
 use Rattle.step_kinds.specs.declared.plan.Plan.{Plan}
 use Rattle.step_kinds.specs.declared.steps.Step.TheVariants.{Ack, Clear, Copy, Look}
-use Rattle.plan_model.specs.Switches.{IsMakeable}
+use Rattle.pair_model.specs.Switches.{IsMakeable}
 use Rattle.step_list.specs.Compact.{lines_with}
 use Rattle.cluster_core.specs.Cluster.{plan_held}
 use Rattle.replay_command.specs.ReplaySteps.{HasKept}

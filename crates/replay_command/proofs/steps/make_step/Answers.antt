@@ -1,5 +1,5 @@
 use Rattle.std.proofs.lemmas.Result.{on_ok_weaker}
-use Rattle.plan_model.specs.PlanParts.{steps_in}
+use Rattle.pair_model.specs.PlanParts.{steps_in}
 use Rattle.replay_command.proofs.StepsMade.{kept_one}
 use Rattle.replay_command.proofs.steps.make_step.Goals as goal
 

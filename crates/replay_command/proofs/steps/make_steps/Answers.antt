@@ -3,7 +3,7 @@ use Rattle.std.specs.List.{All}
 use Rattle.std.proofs.lemmas.List.{take_all}
 use Rattle.step_kinds.specs.declared.plan.Line.{Line}
 use Rattle.step_kinds.specs.declared.plan.Plan.{Plan}
-use Rattle.plan_model.specs.Switches.{IsMakeable}
+use Rattle.pair_model.specs.Switches.{IsMakeable}
 use Rattle.step_list.specs.StepLists.{all_lines, lines_in}
 use Rattle.cluster_core.specs.Cluster.{plan_held}
 use Rattle.replay_command.specs.ReplaySteps.{HasKept}

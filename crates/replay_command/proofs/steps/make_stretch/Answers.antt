@@ -1,7 +1,7 @@
 use Rattle.std.proofs.Common.{arith, subst}
 use Rattle.std.specs.List.{All}
 use Rattle.step_kinds.specs.declared.plan.Line.{Line}
-use Rattle.plan_model.specs.Switches.{IsMakeable}
+use Rattle.pair_model.specs.Switches.{IsMakeable}
 use Rattle.step_list.specs.StepLists.{lines_in}
 use Rattle.step_list.specs.declared.step_list.Stretch.{Stretch}
 use Rattle.cluster_core.specs.Cluster.{plan_held}

@@ -1,5 +1,5 @@
 use Rattle.std.proofs.Common.{arith, ◌≡◌, ◌+◌, ◌-◌, ◌<◌, ℕ, inl, inr, sym, ap, ◌∙◌}
-use Rattle.table_rule.specs.LaneNames.{tail_of}
+use Rattle.table_lane.specs.LaneNames.{tail_of}
 use Rattle.table_lane.proofs.Positions.{position_below, number_ahead}
 use Rattle.table_lane.proofs.back.number_at.Goals as goal
 

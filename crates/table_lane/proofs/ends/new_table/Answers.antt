@@ -1,8 +1,8 @@
 use Rattle.std.proofs.Common.{ℕ, List, subst, sym, ◌∙◌, replicate, None}
 use Rattle.atomic_table.specs.Table.{opening}
-use Rattle.table_rule.specs.Rule.{ShowsALane}
-use Rattle.table_rule.specs.Views.{all_parts}
-use Rattle.table_rule.proofs.Facade.{opens}
+use Rattle.table_lane.specs.Rule.{ShowsALane}
+use Rattle.table_lane.specs.Views.{all_parts}
+use Rattle.table_lane.proofs.Facade.{opens}
 use Rattle.table_lane.proofs.ends.new_table.Goals as goal
 
 pub vacant-requires : goal.vacant-requires

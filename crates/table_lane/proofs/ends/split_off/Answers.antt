@@ -1,6 +1,6 @@
 use Rattle.std.proofs.Common.{rules}
-use Rattle.table_rule.specs.Views.{OfMover, OfReceiver, OfWayBack, OfCut}
-use Rattle.table_rule.proofs.Facade.{splits_off}
+use Rattle.table_lane.specs.Views.{OfMover, OfReceiver, OfWayBack, OfCut}
+use Rattle.table_lane.proofs.Facade.{splits_off}
 use Rattle.table_lane.proofs.ends.split_off.Goals as goal
 
 pub split_seat-mover-requires : goal.split_seat-mover-requires

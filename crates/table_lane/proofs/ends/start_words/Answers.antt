@@ -1,6 +1,6 @@
 use Rattle.std.proofs.Common.{rules, ◌≡◌, ℕ, ◌-◌, refl, ap, ◌∙◌, replicate, set}
-use Rattle.table_rule.specs.Words.{words_in}
-use Rattle.table_rule.proofs.Facade.{first_lie}
+use Rattle.table_lane.specs.Words.{words_in}
+use Rattle.table_lane.proofs.Facade.{first_lie}
 use Rattle.table_lane.proofs.ends.start_words.Goals as goal
 
 pub returns : goal.returns

@@ -1,5 +1,5 @@
 use Rattle.std.proofs.Common.{rules}
-use Rattle.table_rule.proofs.Facade.{seats_join}
+use Rattle.table_lane.proofs.Facade.{seats_join}
 use Rattle.table_lane.proofs.lane_end.join_all.Goals as goal
 
 pub join_seat-requires : goal.join_seat-requires

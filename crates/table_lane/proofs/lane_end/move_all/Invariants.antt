@@ -1,5 +1,5 @@
 use Rattle.std.proofs.Common.{◌≡◌, ◌-◌, length}
-use Rattle.table_rule.specs.Views.{the_send, the_move, the_recv}
+use Rattle.table_lane.specs.Views.{the_send, the_move, the_recv}
 use Rattle.table_lane.specs.EndOfLane.{MovesNext, GoesOn}
 use Rattle.table_lane.proofs.lane_end.move_all.Given as goal
 

@@ -1,7 +1,7 @@
 use Rattle.std.proofs.Common.{◌≡◌, ℕ, ◌%◌, List, ◌∷◌, length, eqb, eq-eqb, true, sym, ap, ◌∙◌, Some}
 use Rattle.atomic_table.specs.Table.{rest}
-use Rattle.table_rule.specs.Rule.{Sitter, Content}
-use Rattle.table_rule.specs.Views.{the_recv}
+use Rattle.table_lane.specs.Rule.{Sitter, Content}
+use Rattle.table_lane.specs.Views.{the_recv}
 use Rattle.table_lane.proofs.recv.receive.Goals as goal
 
 pub clear_flag-requires-clause-slot : goal.clear_flag-requires-clause-slot

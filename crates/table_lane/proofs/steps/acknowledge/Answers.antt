@@ -1,6 +1,6 @@
 use Rattle.std.proofs.Common.{arith, ℕ, ◌%◌, sym, ap, ◌∙◌}
-use Rattle.table_rule.specs.Words.{index_out_word}
-use Rattle.table_rule.proofs.Facade.{stores_index_out_allowed}
+use Rattle.table_lane.specs.Words.{index_out_word}
+use Rattle.table_lane.proofs.Facade.{stores_index_out_allowed}
 use Rattle.table_lane.proofs.steps.acknowledge.Goals as goal
 
 pub store-requires : goal.store-requires

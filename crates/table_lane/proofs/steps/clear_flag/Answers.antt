@@ -1,9 +1,9 @@
 use Rattle.std.proofs.Common.{length, ◌≡◌, ℕ, ◌%◌, sym, ap, ◌∙◌, subst}
-use Rattle.table_rule.specs.Rule.{Sitter}
-use Rattle.table_rule.specs.declared.parts.LaneView.{LaneView}
-use Rattle.table_rule.specs.Views.{HasRecv, the_recv}
+use Rattle.table_lane.specs.Rule.{Sitter}
+use Rattle.table_lane.specs.declared.parts.LaneView.{LaneView}
+use Rattle.table_lane.specs.Views.{HasRecv, the_recv}
 use Rattle.atomic_table.specs.Table.{rest}
-use Rattle.table_rule.proofs.Facade.{clears_flag_allowed}
+use Rattle.table_lane.proofs.Facade.{clears_flag_allowed}
 use Rattle.table_lane.proofs.WordsInTable.{flag_stands}
 use Rattle.table_lane.proofs.steps.clear_flag.Goals as goal
 

@@ -1,6 +1,6 @@
 use Rattle.std.proofs.Common.{arith, sym, ap, ◌∙◌}
-use Rattle.table_rule.specs.Words.{link_word}
-use Rattle.table_rule.proofs.Facade.{cuts_link_allowed}
+use Rattle.table_lane.specs.Words.{link_word}
+use Rattle.table_lane.proofs.Facade.{cuts_link_allowed}
 use Rattle.table_lane.proofs.steps.cut_link.Goals as goal
 
 pub store-requires : goal.store-requires

@@ -1,4 +1,4 @@
-use Rattle.table_rule.proofs.Facade.{sees_flag_allowed}
+use Rattle.table_lane.proofs.Facade.{sees_flag_allowed}
 use Rattle.table_lane.proofs.WordsInTable.{flag_stands}
 use Rattle.table_lane.proofs.steps.load_flag.Goals as goal
 

@@ -1,4 +1,4 @@
-use Rattle.table_rule.proofs.Facade.{copies_frame_allowed}
+use Rattle.table_lane.proofs.Facade.{copies_frame_allowed}
 use Rattle.table_lane.proofs.WordsInTable.{header_stands}
 use Rattle.table_lane.proofs.steps.load_header.Goals as goal
 

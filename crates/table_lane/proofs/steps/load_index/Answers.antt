@@ -1,6 +1,6 @@
 use Rattle.std.proofs.Common.{arith, sym, ap, ◌∙◌}
-use Rattle.table_rule.specs.Words.{index_word}
-use Rattle.table_rule.proofs.Facade.{sees_index_allowed}
+use Rattle.table_lane.specs.Words.{index_word}
+use Rattle.table_lane.proofs.Facade.{sees_index_allowed}
 use Rattle.table_lane.proofs.steps.load_index.Goals as goal
 
 pub load-requires : goal.load-requires

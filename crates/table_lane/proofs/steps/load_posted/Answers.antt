@@ -1,4 +1,4 @@
-use Rattle.table_rule.proofs.Facade.{sees_posted_allowed}
+use Rattle.table_lane.proofs.Facade.{sees_posted_allowed}
 use Rattle.table_lane.proofs.WordsInTable.{posted_stands}
 use Rattle.table_lane.proofs.steps.load_posted.Goals as goal
 

@@ -1,10 +1,10 @@
 use Rattle.std.proofs.Common.{length, ◌^◌, ◌≡◌, ℕ, ◌<◌, sym, ap, ◌∙◌, subst}
-use Rattle.table_rule.specs.Words.{posted_word, header_of}
-use Rattle.table_rule.specs.Rule.{Sitter}
-use Rattle.table_rule.specs.declared.parts.LaneView.{LaneView}
-use Rattle.table_rule.specs.Views.{HasSend, the_send}
+use Rattle.table_lane.specs.Words.{posted_word, header_of}
+use Rattle.table_lane.specs.Rule.{Sitter}
+use Rattle.table_lane.specs.declared.parts.LaneView.{LaneView}
+use Rattle.table_lane.specs.Views.{HasSend, the_send}
 use Rattle.atomic_table.specs.Table.{rest}
-use Rattle.table_rule.proofs.Facade.{stores_posted_allowed}
+use Rattle.table_lane.proofs.Facade.{stores_posted_allowed}
 use Rattle.table_lane.proofs.WordsInTable.{posted_stands}
 use Rattle.table_lane.proofs.steps.post_frame.Goals as goal
 

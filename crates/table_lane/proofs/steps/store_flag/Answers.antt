@@ -1,6 +1,6 @@
 use Rattle.std.proofs.Common.{ℕ, ◌%◌, sym, ap, ◌∙◌}
-use Rattle.table_rule.specs.Views.{the_move}
-use Rattle.table_rule.proofs.Facade.{stores_flag_allowed}
+use Rattle.table_lane.specs.Views.{the_move}
+use Rattle.table_lane.proofs.Facade.{stores_flag_allowed}
 use Rattle.table_lane.proofs.WordsInTable.{flag_stands}
 use Rattle.table_lane.proofs.steps.store_flag.Goals as goal
 

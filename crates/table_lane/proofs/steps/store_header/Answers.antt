@@ -1,11 +1,11 @@
 use Rattle.std.proofs.Common.{arith, ◌≡◌, ℕ, ◌+◌, ◌-◌, ◌%◌, ◌<◌, sym, ap, ◌∙◌}
-use Rattle.table_rule.specs.declared.parts.MovePart.{MovePart}
-use Rattle.table_rule.specs.ShownLane.{number_at}
-use Rattle.table_rule.specs.Words.{spacing}
-use Rattle.table_rule.specs.Rule.{Sitter}
-use Rattle.table_rule.specs.Views.{the_move, with_move}
-use Rattle.table_rule.specs.Knowledge.{header_stored}
-use Rattle.table_rule.proofs.Facade.{number_is, stores_header_allowed}
+use Rattle.table_lane.specs.declared.parts.MovePart.{MovePart}
+use Rattle.table_lane.specs.ShownLane.{number_at}
+use Rattle.table_lane.specs.Words.{spacing}
+use Rattle.table_lane.specs.Rule.{Sitter}
+use Rattle.table_lane.specs.Views.{the_move, with_move}
+use Rattle.table_lane.specs.Knowledge.{header_stored}
+use Rattle.table_lane.proofs.Facade.{number_is, stores_header_allowed}
 use Rattle.table_lane.proofs.WordsInTable.{header_stands}
 use Rattle.table_lane.proofs.steps.store_header.Goals as goal
 

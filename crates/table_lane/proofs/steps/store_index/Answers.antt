@@ -1,8 +1,8 @@
 use Rattle.std.proofs.Common.{arith, ℕ, sym, ap, ◌∙◌}
-use Rattle.table_rule.specs.LaneNames.{tail_of}
-use Rattle.table_rule.specs.Words.{index_word}
-use Rattle.table_rule.specs.Views.{the_back}
-use Rattle.table_rule.proofs.Facade.{stores_index_allowed}
+use Rattle.table_lane.specs.LaneNames.{tail_of}
+use Rattle.table_lane.specs.Words.{index_word}
+use Rattle.table_lane.specs.Views.{the_back}
+use Rattle.table_lane.proofs.Facade.{stores_index_allowed}
 use Rattle.table_lane.proofs.steps.store_index.Goals as goal
 
 pub store-requires : goal.store-requires

@@ -2,8 +2,8 @@ use Rattle.std.proofs.Common.{◌≡◌, ◌∙◌, ◌++◌, [], List, refl, ap
 use Rattle.ledger_model.specs.Log.{Answered}
 use Rattle.report_text.specs.Report.{AnsweredStep}
 use Rattle.replay_command.specs.Replays.{answered_steps, log_of_plan}
-use Rattle.trace_text.specs.Lines.{step_lines}
-use Rattle.trace_text.specs.Writes.{writes_start}
+use Rattle.trace_command.specs.Lines.{step_lines}
+use Rattle.trace_command.specs.Writes.{writes_start}
 use Rattle.trace_command.specs.Head.{head}
 use Rattle.trace_command.specs.Trace.{Traced}
 use Rattle.trace_command.proofs.Traces.{lines_kept}

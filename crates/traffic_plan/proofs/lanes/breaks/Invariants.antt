@@ -1,5 +1,5 @@
 use Rattle.std.proofs.Common.{◌≡◌, count_by, take}
-use Rattle.plan_model.specs.TrafficPlans.{is_break_of}
+use Rattle.pair_model.specs.TrafficPlans.{is_break_of}
 use Rattle.traffic_plan.proofs.lanes.breaks.Given as goal
 
 abbrev pub invariant-loop-item : goal.invariant-loop-item

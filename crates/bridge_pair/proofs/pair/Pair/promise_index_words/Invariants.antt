@@ -1,7 +1,7 @@
 use Rattle.std.proofs.Common.{◌≡◌, ℕ, ◌<◌}
-use Rattle.byte_model.specs.Addresses.{own_index_word}
+use Rattle.pair_model.specs.Addresses.{own_index_word}
 use Rattle.host_memory.specs.Memory.{ArePromised}
-use Rattle.plan_model.specs.Plans.{side_plan}
+use Rattle.pair_model.specs.Plans.{side_plan}
 use Rattle.bridge_pair.specs.Bridge.{pages_of}
 use Rattle.bridge_pair.specs.Pages.{OnlyPagesGrow}
 use Rattle.bridge_pair.specs.Words.{TouchesIndexWord}

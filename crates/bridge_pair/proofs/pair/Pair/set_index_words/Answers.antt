@@ -1,9 +1,9 @@
 use Rattle.std.proofs.Common.{◌≡◌, ℕ, ◌+◌, ◌-◌, ◌<◌, ◌≤◌, List, ap, ◌∙◌, sym, subst, arith}
-use Rattle.byte_model.specs.Headers.{word_bytes}
+use Rattle.pair_model.specs.Headers.{word_bytes}
 use Rattle.host_memory.specs.Memory.{ArePromised, written}
-use Rattle.plan_model.specs.DeclaredPlans.{IsPair}
-use Rattle.plan_model.specs.Plans.{side_plan}
-use Rattle.plan_model.specs.Sizes.{layout_of}
+use Rattle.pair_model.specs.DeclaredPlans.{IsPair}
+use Rattle.pair_model.specs.Plans.{side_plan}
+use Rattle.pair_model.specs.Sizes.{layout_of}
 use Rattle.plan_numbers.specs.Memories.{WindowsFit, memory_size}
 use Rattle.ring_geometry.specs.Geometry.{entries_of}
 use Rattle.step_kinds.specs.declared.plan.PairPlan.{PairPlan}

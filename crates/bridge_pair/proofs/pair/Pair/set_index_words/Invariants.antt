@@ -1,7 +1,7 @@
 use Rattle.std.proofs.Common.{◌≡◌, ◌-◌, map}
 use Rattle.lane_model.specs.Lane.{count_from}
-use Rattle.byte_model.specs.FreshRings.{fresh_index_word}
-use Rattle.plan_model.specs.Plans.{side_plan}
+use Rattle.pair_model.specs.FreshRings.{fresh_index_word}
+use Rattle.pair_model.specs.Plans.{side_plan}
 use Rattle.bridge_pair.specs.Bridge.{bytes_of, with_bytes}
 use Rattle.bridge_pair.specs.Ends.{bytes_after}
 use Rattle.bridge_pair.proofs.pair.Pair.set_index_words.Given as goal

@@ -1,8 +1,8 @@
 use Rattle.std.proofs.Common.{◌≡◌, ◌∙◌, List, length, map, sym, ap, subst}
 use Rattle.step_kinds.specs.declared.plan.SwitchPlan.{SwitchPlan}
-use Rattle.plan_model.specs.DeclaredPlans.{IsDeclared}
-use Rattle.plan_model.specs.Switches.{AreSwitches}
-use Rattle.switch_model.specs.Switch.{new_switch}
+use Rattle.pair_model.specs.DeclaredPlans.{IsDeclared}
+use Rattle.pair_model.specs.Switches.{AreSwitches}
+use Rattle.pair_model.specs.Switch.{new_switch}
 use Rattle.cluster_core.specs.Cluster.{ClusterState}
 use Rattle.cluster_core.specs.Clusters.{HavePorts}
 use Rattle.cluster_core.proofs.DeclaredNetworks.{declared_bare, made_none, plan_new, switches_declared}

@@ -1,6 +1,6 @@
 use Rattle.std.proofs.Common.{◌≡◌, ◌<◌, true, List, length, refl, ap, sym, subst, arith}
 use Rattle.step_kinds.specs.declared.plan.SwitchPlan.{SwitchPlan}
-use Rattle.switch_model.specs.Switch.{list_of}
+use Rattle.pair_model.specs.Switch.{list_of}
 use Rattle.learn_switch.specs.Frames.{Bytes}
 use Rattle.cluster_core.specs.Cluster.{ClusterState}
 use Rattle.cluster_core.specs.Clusters.{cluster_seen}

@@ -1,6 +1,6 @@
 use Rattle.std.proofs.Common.{◌≡◌, ◌∙◌, true, sym, ap, subst, arith, set}
-use Rattle.switch_log.specs.Network.{answer_of}
-use Rattle.switch_log.specs.Ports.{Port}
+use Rattle.ledger_model.specs.Network.{answer_of}
+use Rattle.ledger_model.specs.Ports.{Port}
 use Rattle.learn_switch.specs.Frames.{Bytes, bytes_after_relay, bytes_relay_answer, goes_on}
 use Rattle.cluster_core.specs.Cluster.{ClusterState}
 use Rattle.cluster_core.specs.Moves.{relay_answer_in, relay_goes_on, relayed_in}

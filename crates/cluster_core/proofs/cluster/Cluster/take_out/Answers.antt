@@ -1,5 +1,5 @@
 use Rattle.std.proofs.Common.{◌<◌, length, sym, subst, arith}
-use Rattle.switch_model.specs.Switch.{list_of}
+use Rattle.pair_model.specs.Switch.{list_of}
 use Rattle.learn_switch.specs.Frames.{Bytes}
 use Rattle.cluster_core.specs.Cluster.{ClusterState}
 use Rattle.cluster_core.specs.Moves.{HasWaiting}

@@ -1,8 +1,8 @@
 use Rattle.std.proofs.Common.{List, [], ◌∷◌, ◌++◌, sym, subst}
 use Rattle.step_kinds.specs.declared.plan.Plan.{Plan}
 use Rattle.step_kinds.specs.declared.steps.Step.{Step}
-use Rattle.memory_model.specs.Memory.{memory_of}
-use Rattle.switch_log.specs.Log.{answer_after}
+use Rattle.ledger_model.specs.Memory.{memory_of}
+use Rattle.ledger_model.specs.NetworkLog.{answer_after}
 use Rattle.cluster_core.specs.Cluster.{ClusterState}
 use Rattle.cluster_core.specs.LogClauses.{HasMade}
 use Rattle.explore_model.specs.Schedules.{landing_step}

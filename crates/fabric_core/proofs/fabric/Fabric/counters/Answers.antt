@@ -1,7 +1,7 @@
 use Rattle.std.proofs.Common.{◌≡◌, ◌∙◌, ap, get_or}
 use Rattle.std.proofs.lemmas.List.{get_or_default}
 use Rattle.step_kinds.specs.declared.plan.DevPlan.{DevPlan}
-use Rattle.plan_model.specs.Plans.{dev_plan, no_dev}
+use Rattle.pair_model.specs.Plans.{dev_plan, no_dev}
 use Rattle.fabric_rule.specs.Parts.{QueuePart, queue_of}
 use Rattle.fabric_core.specs.Fabric.{FabricState, pair_of}
 use Rattle.fabric_core.proofs.LogCounts.{counters_counted}

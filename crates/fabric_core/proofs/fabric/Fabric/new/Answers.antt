@@ -4,8 +4,8 @@ use Rattle.step_kinds.specs.declared.plan.DevPlan.{DevPlan}
 use Rattle.step_kinds.specs.declared.plan.PairPlan.{PairPlan}
 use Rattle.fabric_rule.specs.Parts.{PairState}
 use Rattle.step_kinds.specs.declared.plan.Plan.{Plan}
-use Rattle.plan_model.specs.DeclaredPlans.{IsDeclared}
-use Rattle.plan_model.specs.Plans.{no_pair, pair_plan}
+use Rattle.pair_model.specs.DeclaredPlans.{IsDeclared}
+use Rattle.pair_model.specs.Plans.{no_pair, pair_plan}
 use Rattle.fabric_core.specs.Fabric.{FabricState}
 use Rattle.fabric_core.specs.LogClauses.{HasMade}
 use Rattle.fabric_core.proofs.FreshFabrics.{AreFresh, IsFresh, fresh_itself, fresh_made, one_more_fresh}

@@ -1,6 +1,6 @@
 use Rattle.std.proofs.Common.{◌≡◌, ◌∙◌, ap, refl, rules, subst, sym, arith}
 use Rattle.std.proofs.lemmas.Grind.{common_steps}
-use Rattle.plan_model.specs.Ethernet.{ethernet_frame}
+use Rattle.pair_model.specs.Ethernet.{ethernet_frame}
 use Rattle.fabric_core.specs.QueueCalls.{HasTurnedUnlessWanting, IsBegun}
 use Rattle.fabric_core.proofs.MorePages.{on_err}
 use Rattle.fabric_core.proofs.QueueCalls.{keeps_same}

@@ -1,7 +1,7 @@
 use Rattle.std.proofs.Common.{◌≡◌, ◌∙◌, ap, length, refl, subst, sym, rules, arith}
 use Rattle.std.proofs.lemmas.Grind.{common_steps}
 use Rattle.lane_model.specs.Tests.{is_copying}
-use Rattle.plan_model.specs.Link.{Link}
+use Rattle.pair_model.specs.Link.{Link}
 use Rattle.bridge_pair.specs.Bridge.{Bridge}
 use Rattle.frame_ring.specs.Port.{Receiving}
 use Rattle.queue_pair.specs.Gates.{after_begin, begin_answer}

@@ -1,8 +1,8 @@
 use Rattle.std.proofs.Common.{◌≡◌, ◌∙◌, ap, false, refl, subst, sym}
 use Rattle.step_kinds.specs.declared.lanes.LaneCopy.{LaneCopy}
 use Rattle.lane_model.specs.Tests.{is_copying}
-use Rattle.plan_model.specs.Device.{count_delivered}
-use Rattle.plan_model.specs.Link.{Link}
+use Rattle.pair_model.specs.Device.{count_delivered}
+use Rattle.pair_model.specs.Link.{Link}
 use Rattle.frame_ring.specs.Calls.{after_copy}
 use Rattle.frame_ring.specs.PortView.{HasPagesIn}
 use Rattle.queue_pair.specs.Queue.{QueueState, with_port}

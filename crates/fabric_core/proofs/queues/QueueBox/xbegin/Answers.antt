@@ -2,7 +2,7 @@ use Rattle.std.proofs.Common.{◌≡◌, ◌∙◌, ◌≤◌, Result, Ok, Err, 
 use Rattle.step_kinds.specs.declared.steps.Answer.{Answer}
 use Rattle.bridge_pair.specs.Bridge.{Bridge}
 use Rattle.frame_ring.specs.PortView.{HasPagesIn}
-use Rattle.plan_model.specs.Ethernet.{ethernet_frame}
+use Rattle.pair_model.specs.Ethernet.{ethernet_frame}
 use Rattle.fabric_rule.specs.Parts.{QueuePart}
 use Rattle.fabric_core.specs.Numbers.{most_count}
 use Rattle.fabric_core.specs.Parts.{KeepsPort}

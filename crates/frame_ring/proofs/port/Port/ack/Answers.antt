@@ -1,5 +1,5 @@
 use Rattle.std.proofs.Common.{◌∙◌, ap, sym, subst}
-use Rattle.byte_model.specs.RingWrites.{index_write}
+use Rattle.pair_model.specs.RingWrites.{index_write}
 use Rattle.lane_model.specs.Tests.{is_cleared}
 use Rattle.step_kinds.specs.Sides.{other_side}
 use Rattle.bridge_pair.specs.Bridge.{pages_of}

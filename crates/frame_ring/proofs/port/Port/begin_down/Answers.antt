@@ -1,5 +1,5 @@
 use Rattle.std.proofs.Common.{◌≡◌, ◌∙◌, ◌-◌, [], ◌∷◌, false, not, refl, ap, sym, subst, arith}
-use Rattle.plan_model.specs.DeclaredPlans.{SizesFit}
+use Rattle.pair_model.specs.DeclaredPlans.{SizesFit}
 use Rattle.step_kinds.specs.Sides.{other_side}
 use Rattle.step_kinds.specs.declared.names.Side.{Side}
 use Rattle.bridge_pair.specs.Bridge.{Bridge, flight_of, pages_of, with_flight, with_pages}

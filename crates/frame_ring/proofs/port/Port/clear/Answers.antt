@@ -1,6 +1,6 @@
 use Rattle.std.proofs.Common.{◌∙◌, ◌+◌, ap, sym, subst}
-use Rattle.byte_model.specs.Addresses.{own_header}
-use Rattle.byte_model.specs.Headers.{flags_offset}
+use Rattle.pair_model.specs.Addresses.{own_header}
+use Rattle.pair_model.specs.Headers.{flags_offset}
 use Rattle.host_memory.specs.Memory.{ArePromised}
 use Rattle.lane_model.specs.Tests.{is_copied}
 use Rattle.step_kinds.specs.Sides.{other_side}

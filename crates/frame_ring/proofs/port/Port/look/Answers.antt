@@ -1,8 +1,8 @@
 use Rattle.std.proofs.Common.{◌≡◌, ◌∙◌, ℕ, ◌+◌, ◌-◌, ◌≤◌, true, false, length, refl, ap, sym, subst, arith}
-use Rattle.byte_model.specs.Headers.{Header, found_with, header_in}
+use Rattle.pair_model.specs.Headers.{Header, found_with, header_in}
 use Rattle.lane_model.specs.Tests.{is_idle}
 use Rattle.lane_model.specs.declared.Phase.TheVariants.{Copying}
-use Rattle.plan_model.specs.Sizes.{layout_to, sizes_in}
+use Rattle.pair_model.specs.Sizes.{layout_to, sizes_in}
 use Rattle.ring_geometry.specs.Geometry.{max_payload_of}
 use Rattle.step_kinds.specs.Limits.{most_frame_bytes}
 use Rattle.step_kinds.specs.Sides.{other_side}

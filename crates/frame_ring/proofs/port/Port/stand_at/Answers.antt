@@ -1,7 +1,7 @@
 use Rattle.std.proofs.Common.{◌≡◌, ◌∙◌, true, ℕ, ◌+◌, ◌-◌, ◌≤◌, OnOk, length, refl, ap, sym, subst, arith}
-use Rattle.byte_model.specs.Addresses.{own_header}
-use Rattle.byte_model.specs.Headers.{flags_offset}
-use Rattle.byte_model.specs.RingWrites.{index_write}
+use Rattle.pair_model.specs.Addresses.{own_header}
+use Rattle.pair_model.specs.Headers.{flags_offset}
+use Rattle.pair_model.specs.RingWrites.{index_write}
 use Rattle.host_memory.specs.Memory.{ArePromised, Touches}
 use Rattle.lane_model.specs.Tests.{is_idle}
 use Rattle.lane_model.specs.declared.Phase.TheVariants.{Copying}
@@ -10,10 +10,10 @@ use Rattle.step_kinds.specs.Sides.{other_side}
 use Rattle.step_kinds.specs.declared.names.Side.{Side}
 use Rattle.bridge_pair.specs.Bridge.{Bridge, pages_of, with_pages}
 use Rattle.bridge_pair.proofs.Facade.{grows_nothing}
-use Rattle.plan_model.specs.DeclaredPlans.{SizesFit}
+use Rattle.pair_model.specs.DeclaredPlans.{SizesFit}
 use Rattle.ring_geometry.specs.Geometry.{max_payload_of}
 use Rattle.bridge_pair.specs.Pages.{PagesGrow}
-use Rattle.plan_model.specs.Sizes.{layout_of, layout_to}
+use Rattle.pair_model.specs.Sizes.{layout_of, layout_to}
 use Rattle.ring_geometry.specs.Geometry.{index_of}
 use Rattle.frame_ring.specs.Port.{PortState, Receiving, unused_of, with_receiving}
 use Rattle.frame_ring.specs.Ports.{port_seen}

@@ -1,6 +1,6 @@
 use Rattle.std.proofs.Common.{◌∙◌, ap}
 use Rattle.bridge_pair.specs.Bridge.{pages_of}
-use Rattle.plan_model.specs.Sizes.{header_bytes}
+use Rattle.pair_model.specs.Sizes.{header_bytes}
 use Rattle.step_kinds.specs.Sides.{other_side}
 use Rattle.frame_ring.specs.Promises.{IsEntryPromised, IsRangePromised}
 use Rattle.frame_ring.proofs.EntryPages.{entry_promised, header_grows, ok_map, payload_grows}

@@ -1,7 +1,7 @@
 use Rattle.std.proofs.Common.{◌≡◌, ◌∙◌, ℕ, ◌+◌, ◌<◌, ap, length, arith}
 use Rattle.lane_model.specs.Lane.{bytes_of}
-use Rattle.plan_model.specs.Pieces.{pieces_of}
-use Rattle.plan_model.specs.Sizes.{pieces_in, sizes_of}
+use Rattle.pair_model.specs.Pieces.{pieces_of}
+use Rattle.pair_model.specs.Sizes.{pieces_in, sizes_of}
 use Rattle.ring_geometry.specs.Geometry.{max_payload_of}
 use Rattle.step_kinds.specs.Sides.{other_side}
 use Rattle.bridge_pair.specs.Bridge.{pages_of}

@@ -1,7 +1,7 @@
 use Rattle.std.proofs.Common.{◌≡◌, ℕ, ◌+◌, ◌<◌, length}
 use Rattle.lane_model.specs.Lane.{bytes_of}
-use Rattle.plan_model.specs.Pieces.{pieces_of}
-use Rattle.plan_model.specs.Sizes.{sizes_of}
+use Rattle.pair_model.specs.Pieces.{pieces_of}
+use Rattle.pair_model.specs.Sizes.{sizes_of}
 use Rattle.step_kinds.specs.Sides.{other_side}
 use Rattle.bridge_pair.specs.Bridge.{pages_of, with_pages}
 use Rattle.bridge_pair.specs.Pages.{PagesGrow}

@@ -1,6 +1,6 @@
 use Rattle.std.proofs.Common.{◌≡◌, ◌∙◌, ◌+◌, ◌≤◌, ap, sym, subst, arith, length}
-use Rattle.plan_model.specs.Pieces.{pieces_of}
-use Rattle.plan_model.specs.Sizes.{pieces_in}
+use Rattle.pair_model.specs.Pieces.{pieces_of}
+use Rattle.pair_model.specs.Sizes.{pieces_in}
 use Rattle.frame_ring.specs.Calls.{entries_begun}
 use Rattle.frame_ring.specs.Outgoing.{Outgoing, all_writes_in, most_numbers, sender_seen, with_progress}
 use Rattle.frame_ring.proofs.Entries.{length-pieces_of}

@@ -6,7 +6,7 @@ use Rattle.std.proofs.lemmas.List.{length-map, with_items_is}
 use Rattle.std.proofs.lemmas.Option.{slice_get-map}
 use Rattle.lane_model.specs.Law.{HoldsRingLaw}
 use Rattle.lane_model.specs.Steps.{after_landing}
-use Rattle.plan_model.specs.Labels.{label_of}
+use Rattle.pair_model.specs.Labels.{label_of}
 use Rattle.lane_core.specs.Calls.{LaneValue, with_lane, land_answer, after_land, number_of}
 use Rattle.lane_core.specs.Parts.{IsKnown, entry_in, entry_seen, place_seen, ring_after}
 use Rattle.lane_core.specs.LaneView.{lane_seen, value_seen}

@@ -1,7 +1,7 @@
 use Rattle.std.proofs.Common.{◌≡◌, true, false, not, Some, nat_lt, length, ◌∙◌, sym, ap, rules}
 use Rattle.std.specs.Str.{bytes_eq}
-use Rattle.switch_model.specs.Fdb.{is_multicast, lookup, most_stations, once_learned}
-use Rattle.switch_model.proofs.Facade.{known-source, lookup-another, lookup-source}
+use Rattle.pair_model.specs.Fdb.{is_multicast, lookup, most_stations, once_learned}
+use Rattle.pair_model.proofs.Facade.{known-source, lookup-another, lookup-source}
 use Rattle.learn_switch.proofs.TestAnswers.{not-false, not-true, room-for}
 use Rattle.learn_switch.proofs.fdb.Fdb.lookup_with.Goals as goal
 

@@ -1,7 +1,7 @@
 use Rattle.std.proofs.Common.{◌≡◌, ◌<◌, length, rules, subst, sym, ◌∙◌, arith}
 use Rattle.std.proofs.lemmas.List.{length-set}
-use Rattle.switch_model.specs.Fdb.{AreBelow, learned_source}
-use Rattle.switch_model.proofs.Facade.{learned_source-below}
+use Rattle.pair_model.specs.Fdb.{AreBelow, learned_source}
+use Rattle.pair_model.proofs.Facade.{learned_source-below}
 use Rattle.learn_switch.specs.Frames.{AllHaveHeaders}
 use Rattle.learn_switch.proofs.LongFrames.{headers-forwarded}
 use Rattle.learn_switch.proofs.switch.Switch.relay.Goals as goal

@@ -1,7 +1,7 @@
 use Rattle.std.proofs.Common.{◌≡◌, ◌&&◌, true, false, sym, ap, ◌∙◌, get_or, arith}
 use Rattle.std.proofs.lemmas.List.Folds.{list_all_more}
 use Rattle.order_rules.specs.Transactions.{may_overtake}
-use Rattle.read_model.specs.InFlight.{Flying, kind_of}
+use Rattle.read_path.specs.InFlight.{Flying, kind_of}
 use Rattle.read_path.specs.Flights.{FlightState, flying_of}
 use Rattle.read_path.proofs.FlightLemmas.{one_fails, seen_there}
 use Rattle.read_path.proofs.flight.Flight.passes.Goals as goal

@@ -1,7 +1,7 @@
 use Rattle.std.proofs.Common.{◌≡◌, true, take}
 use Rattle.std.specs.List.{list_all}
 use Rattle.order_rules.specs.Transactions.{may_overtake}
-use Rattle.read_model.specs.InFlight.{kind_of}
+use Rattle.read_path.specs.InFlight.{kind_of}
 use Rattle.read_path.proofs.flight.Flight.passes.Given as goal
 
 abbrev pub invariant-loop-place : goal.invariant-loop-place

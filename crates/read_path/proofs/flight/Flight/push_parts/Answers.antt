@@ -1,5 +1,5 @@
 use Rattle.std.proofs.Common.{List, [], ◌∷◌, ◌++◌, sym, ap, ◌∙◌, append_assoc, arith}
-use Rattle.read_model.specs.InFlight.{Flying, Part, parts_from}
+use Rattle.read_path.specs.InFlight.{Flying, Part, parts_from}
 use Rattle.read_path.specs.Flights.{FlightState}
 use Rattle.read_path.proofs.FlightLemmas.{parts_more}
 use Rattle.read_path.proofs.flight.Flight.push_parts.Goals as goal

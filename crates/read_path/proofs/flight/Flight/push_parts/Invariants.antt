@@ -1,5 +1,5 @@
 use Rattle.std.proofs.Common.{◌≡◌, ◌++◌, ◌+◌}
-use Rattle.read_model.specs.InFlight.{parts_from}
+use Rattle.read_path.specs.InFlight.{parts_from}
 use Rattle.read_path.proofs.flight.Flight.push_parts.Given as goal
 
 abbrev pub invariant-loop-part : goal.invariant-loop-part

@@ -1,6 +1,6 @@
 use Rattle.std.proofs.Common.{Option, Some, None, List, remove, map, ap, ◌∙◌}
 use Rattle.std.specs.Option.{OnSome}
-use Rattle.read_model.specs.InFlight.{Flying}
+use Rattle.read_path.specs.InFlight.{Flying}
 use Rattle.read_path.specs.Flights.{FlightState, flying_of}
 use Rattle.read_path.specs.declared.flight.InFlight.{InFlight}
 use Rattle.read_path.proofs.FlightLemmas.{map-remove}

@@ -1,5 +1,5 @@
 use Rattle.std.proofs.Common.{sym, subst}
-use Rattle.plan_model.specs.DeclaredPlans.{IsDevice}
+use Rattle.pair_model.specs.DeclaredPlans.{IsDevice}
 use Rattle.script_words.specs.Before.{Before}
 use Rattle.script_plan.specs.LinesSoFar.{before_with}
 use Rattle.script_plan.proofs.Soundness.{device_added}

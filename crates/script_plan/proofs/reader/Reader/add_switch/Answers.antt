@@ -1,5 +1,5 @@
 use Rattle.std.proofs.Common.{sym, subst}
-use Rattle.plan_model.specs.Switches.{IsSwitch}
+use Rattle.pair_model.specs.Switches.{IsSwitch}
 use Rattle.script_words.specs.Before.{Before}
 use Rattle.script_plan.specs.LinesSoFar.{before_with}
 use Rattle.script_plan.proofs.Soundness.{switch_added}

@@ -1,6 +1,6 @@
 use Rattle.std.proofs.Common.{◌<◌, length, sym, subst}
-use Rattle.plan_model.specs.DeclaredPlans.{IsPair}
-use Rattle.plan_model.specs.Plans.{no_pair}
+use Rattle.pair_model.specs.DeclaredPlans.{IsPair}
+use Rattle.pair_model.specs.Plans.{no_pair}
 use Rattle.script_words.specs.Before.{Before}
 use Rattle.script_plan.proofs.reader.Reader.pair.Goals as goal
 

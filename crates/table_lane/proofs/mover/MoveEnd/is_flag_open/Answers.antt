@@ -1,6 +1,6 @@
 use Rattle.std.proofs.Common.{◌≡◌, ℕ, ◌<◌, List, length, get_or, false, refl, ap, ◌∙◌, subst}
-use Rattle.table_rule.specs.declared.parts.MovePart.{MovePart}
-use Rattle.table_rule.specs.Views.{the_move}
+use Rattle.table_lane.specs.declared.parts.MovePart.{MovePart}
+use Rattle.table_lane.specs.Views.{the_move}
 use Rattle.table_lane.specs.Ends.{Mover}
 use Rattle.table_lane.specs.MoveChoice.{waiting}
 use Rattle.table_lane.proofs.WaitingEntries.{stored_by_first}

@@ -1,6 +1,6 @@
 use Rattle.std.proofs.Common.{◌≡◌, ℕ, ◌+◌, ◌%◌, ◌<◌, ◌≤◌, Bool, true, false, length, refl, arith, sym, ap, ◌∙◌, subst, if◌then◌else◌}
 use mir.Val.{bool_byte}
-use Rattle.table_rule.specs.declared.parts.MovePart.{MovePart}
+use Rattle.table_lane.specs.declared.parts.MovePart.{MovePart}
 use Rattle.table_lane.specs.MoveChoice.{open_moves}
 use Rattle.table_lane.proofs.FirstMove.{makes_first, open_length}
 use Rattle.table_lane.proofs.mover.MoveEnd.step.Goals as goal

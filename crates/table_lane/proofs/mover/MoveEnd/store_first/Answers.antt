@@ -1,6 +1,6 @@
 use Rattle.std.proofs.Common.{ℕ, List, ◌∷◌, get_or, false, sym, ap, ◌∙◌, Some}
 use Rattle.atomic_table.specs.Table.{rest}
-use Rattle.table_rule.specs.Rule.{Content}
+use Rattle.table_lane.specs.Rule.{Content}
 use Rattle.table_lane.specs.Ends.{Mover}
 use Rattle.table_lane.proofs.WaitingEntries.{first_slot}
 use Rattle.table_lane.proofs.mover.MoveEnd.store_first.Goals as goal

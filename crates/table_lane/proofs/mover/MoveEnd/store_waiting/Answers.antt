@@ -1,7 +1,7 @@
 use Rattle.std.proofs.Common.{◌≡◌, ℕ, ◌+◌, ◌-◌, ◌%◌, ◌<◌, ◌≤◌, List, length, arith, sym, ap, ◌∙◌, subst}
 use Rattle.std.specs.Prelude.{remove}
-use Rattle.table_rule.specs.declared.parts.LaneView.{LaneView}
-use Rattle.table_rule.specs.Rule.{Sitter}
+use Rattle.table_lane.specs.declared.parts.LaneView.{LaneView}
+use Rattle.table_lane.specs.Rule.{Sitter}
 use Rattle.table_lane.specs.Ends.{Mover}
 use Rattle.table_lane.specs.EndFields.{MovesWith}
 use Rattle.table_lane.specs.MoveChoice.{waiting}

@@ -1,11 +1,11 @@
 use Rattle.std.proofs.Common.{◌≡◌, ℕ, ◌+◌, ◌%◌, ◌≤◌, List, [], ◌∷◌, ◌++◌, length, arith, sym, ap, ◌∙◌, subst, eqb, eq-eqb, true, Some}
 use Rattle.atomic_table.specs.Table.{turned}
-use Rattle.table_rule.specs.declared.parts.MovePart.{MovePart}
-use Rattle.table_rule.specs.declared.parts.LaneView.{LaneView}
-use Rattle.table_rule.specs.Words.{header_of}
-use Rattle.table_rule.specs.Rule.{Sitter}
-use Rattle.table_rule.specs.Views.{the_move, with_move}
-use Rattle.table_rule.specs.Knowledge.{taken, posted_loaded, frame_taken}
+use Rattle.table_lane.specs.declared.parts.MovePart.{MovePart}
+use Rattle.table_lane.specs.declared.parts.LaneView.{LaneView}
+use Rattle.table_lane.specs.Words.{header_of}
+use Rattle.table_lane.specs.Rule.{Sitter}
+use Rattle.table_lane.specs.Views.{the_move, with_move}
+use Rattle.table_lane.specs.Knowledge.{taken, posted_loaded, frame_taken}
 use Rattle.table_lane.specs.EndFields.{MovesWith}
 use Rattle.table_lane.proofs.WaitingEntries.{waits_few, with_frame}
 use Rattle.table_lane.proofs.mover.MoveEnd.take_posted.Goals as goal

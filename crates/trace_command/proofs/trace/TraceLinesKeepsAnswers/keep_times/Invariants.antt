@@ -1,7 +1,7 @@
 -- The line stands apart, and so many of it are in the text; the numbers of the writes stay.
 use Rattle.std.proofs.Common.{◌≡◌, replicate}
 use Rattle.std.specs.List.{fold}
-use Rattle.trace_text.specs.Lines.{step_line}
+use Rattle.trace_command.specs.Lines.{step_line}
 use Rattle.trace_command.specs.Trace.{with_line}
 use Rattle.trace_command.proofs.trace.TraceLinesKeepsAnswers.keep_times.Given as goal
 

@@ -1,5 +1,5 @@
 use Rattle.std.proofs.Common.{ap}
-use Rattle.table_rule.specs.declared.parts.SendPart.{SendPart}
+use Rattle.table_lane.specs.declared.parts.SendPart.{SendPart}
 use Rattle.cluster_run.proofs.Streams.NextFrame.{offers_nothing}
 use Rattle.cluster_run.proofs.stream.session.Session.new.Goals as goal
 

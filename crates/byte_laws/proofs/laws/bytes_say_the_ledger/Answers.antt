@@ -1,5 +1,0 @@
-use Rattle.byte_laws.proofs.BytesSayTheLedger.{bytes_say_the_ledger}
-use Rattle.byte_laws.proofs.laws.bytes_say_the_ledger.Goals as goal
-
-pub returns : goal.returns
-returns c = bytes_say_the_ledger

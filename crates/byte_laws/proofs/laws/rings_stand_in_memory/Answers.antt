@@ -1,5 +1,0 @@
-use Rattle.byte_laws.proofs.RingsStand.{rings_stand_in_memory}
-use Rattle.byte_laws.proofs.laws.rings_stand_in_memory.Goals as goal
-
-pub returns : goal.returns
-returns c = rings_stand_in_memory

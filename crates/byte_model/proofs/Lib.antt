@@ -1,2 +1,0 @@
-pub mod Facade
-pub mod StoreLemmas

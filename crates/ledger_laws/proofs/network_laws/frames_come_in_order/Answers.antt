@@ -1,0 +1,5 @@
+use Rattle.ledger_laws.proofs.Headline.{frames_come_in_order}
+use Rattle.ledger_laws.proofs.network_laws.frames_come_in_order.Goals as goal
+
+pub returns : goal.returns
+returns c = frames_come_in_order

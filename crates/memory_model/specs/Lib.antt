@@ -1,3 +1,0 @@
-pub mod Examples
-pub mod Memory
-pub mod Targets

@@ -1,8 +1,0 @@
-pub mod Ahead
-pub mod Holds
-pub mod SidesHold
-pub mod Landings
-pub mod StepsHold
-pub mod ReadsPush
-pub mod ReadNumbers
-pub mod NumbersInLogs

@@ -1,9 +1,0 @@
-pub mod InFlight
-pub mod Path
-pub mod PathLog
-pub mod Pushed
-pub mod Numbers
-pub mod Texts
-pub mod Lines
-pub mod Report
-pub mod Examples

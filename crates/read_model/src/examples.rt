@@ -1,8 +1,0 @@
-//! Worked examples of the definitions.
-
-ghost use Rattle.read_model.specs.Examples.{ExamplesHold};
-
-/// The definitions give the answers and lists of the worked examples.
-pub fn examples_hold()
-    ensures { ExamplesHold }
-{}

@@ -1,5 +1,0 @@
-use Rattle.switch_laws.proofs.Bridges.{bridges_have_a_log}
-use Rattle.switch_laws.proofs.laws.bridges_have_a_log.Goals as goal
-
-pub returns : goal.returns
-returns c = bridges_have_a_log

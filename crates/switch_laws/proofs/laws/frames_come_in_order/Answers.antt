@@ -1,5 +1,0 @@
-use Rattle.switch_laws.proofs.Headline.{frames_come_in_order}
-use Rattle.switch_laws.proofs.laws.frames_come_in_order.Goals as goal
-
-pub returns : goal.returns
-returns c = frames_come_in_order

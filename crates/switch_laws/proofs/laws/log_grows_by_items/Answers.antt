@@ -1,5 +1,0 @@
-use Rattle.switch_laws.proofs.Bridges.{log_grows_by_items}
-use Rattle.switch_laws.proofs.laws.log_grows_by_items.Goals as goal
-
-pub returns : goal.returns
-returns c = log_grows_by_items

@@ -1,3 +1,0 @@
-pub mod Erased
-pub mod Laws
-pub mod Paths

@@ -1,3 +1,0 @@
-pub mod Facade
-pub mod Floods
-pub mod Lookups

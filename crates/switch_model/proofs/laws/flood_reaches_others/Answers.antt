@@ -1,5 +1,0 @@
-use Rattle.switch_model.proofs.Floods.{flood-reaches}
-use Rattle.switch_model.proofs.laws.flood_reaches_others.Goals as goal
-
-pub returns : goal.returns
-returns c = flood-reaches

@@ -1,5 +1,0 @@
-use Rattle.switch_model.proofs.Floods.{flood-spares}
-use Rattle.switch_model.proofs.laws.flood_spares_its_port.Goals as goal
-
-pub returns : goal.returns
-returns c = flood-spares

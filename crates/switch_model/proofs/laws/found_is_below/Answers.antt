@@ -1,5 +1,0 @@
-use Rattle.switch_model.proofs.Lookups.{lookup-below}
-use Rattle.switch_model.proofs.laws.found_is_below.Goals as goal
-
-pub returns : goal.returns
-returns c = lookup-below

@@ -1,5 +1,0 @@
-use Rattle.switch_model.proofs.Lookups.{lookup-learned}
-use Rattle.switch_model.proofs.laws.learned_is_found.Goals as goal
-
-pub returns : goal.returns
-returns c = lookup-learned

@@ -1,5 +1,0 @@
-use Rattle.switch_model.proofs.Lookups.{lookup-other}
-use Rattle.switch_model.proofs.laws.others_stay.Goals as goal
-
-pub returns : goal.returns
-returns c = lookup-other

@@ -1,5 +1,0 @@
-use Rattle.switch_model.proofs.Lookups.{learned-below}
-use Rattle.switch_model.proofs.laws.ports_are_below.Goals as goal
-
-pub returns : goal.returns
-returns c = learned-below

@@ -1,4 +1,0 @@
-pub mod Examples
-pub mod Fdb
-pub mod Laws
-pub mod Switch

@@ -1,6 +1,0 @@
-use Rattle.table_rule.proofs.ReceiverShows.{looks}
-use Rattle.table_rule.proofs.laws.receiver_steps_are_of_the_lane.Goals as goal
-
--- the receiver's look is its step of the lane
-pub returns-clause-looks : goal.returns-clause-looks
-returns-clause-looks c = looks

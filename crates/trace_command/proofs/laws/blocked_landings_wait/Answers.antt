@@ -1,0 +1,5 @@
+use Rattle.trace_command.proofs.blocked_landings_wait.Goals as goal
+use Rattle.trace_command.proofs.BlockedWait.{blocked_landings_wait}
+
+pub returns : goal.returns
+returns c = blocked_landings_wait

@@ -1,0 +1,149 @@
+//! Members of a JSON object. A member's name is given with the comma before it and the colon after it.
+
+ghost use Rattle.std.specs.Prelude.{◌≡◌, ◌++◌, OnOk};
+ghost use Rattle.std.specs.Fmt.{decimal};
+ghost use Rattle.trace_command.specs.Words.{bytes_member, label_members, label_object, number_member, numbers_list, of_entry, text_member, wide_member};
+ghost use Rattle.trace_command.specs.Writes.{numbers_in};
+
+use crate::words::label_name;
+use crate::writes::SideNumbers;
+use itoa::Buffer;
+use report_text::append::{push_hex, push_word};
+use std::alloc::AllocError;
+use step_kinds::Label;
+
+// Numbers below are numbers in a trace.
+const EXACT_NUMBERS: u64 = 1 << 53;
+
+/// Adds a number. The only error is running out of memory.
+pub fn push_number(text: &mut Vec<u8>, number: u64) -> Result<(), AllocError>
+    ensures { OnOk result (text.new.items ≡ text.old.items ++ decimal number) }
+{
+    let mut digits = Buffer::new();
+    text.extend_from_slice(digits.format(number).as_bytes())
+}
+
+/// Adds a member of a JSON object with a number. `name` has the comma before it and the colon after it, as `,"queue":`.
+///
+/// # Errors
+///
+/// [`AllocError`] only when out of memory.
+#[tactic(auto, unfolding(crate::specs::Words::number_member))]
+pub fn push_number_member(text: &mut Vec<u8>, name: &str, number: u64) -> Result<(), AllocError>
+    ensures { OnOk result (text.new.items ≡ text.old.items ++ number_member name.now number) }
+{
+    push_word(text, name)?;
+    push_number(text, number)
+}
+
+/// Adds a member with a number that may be large: from 2^53 on its digits stand within quotation marks, since some
+/// readers of JSON have no larger numbers. The only error is running out of memory.
+#[tactic(auto, unfolding(crate::specs::Words::text_member))]
+pub fn push_wide_member(text: &mut Vec<u8>, name: &str, number: u64) -> Result<(), AllocError>
+    ensures { OnOk result (text.new.items ≡ text.old.items ++ wide_member name.now number) }
+{
+    if number < EXACT_NUMBERS {
+        return push_number_member(text, name, number);
+    }
+    push_word(text, name)?;
+    push_word(text, "\"")?;
+    push_number(text, number)?;
+    push_word(text, "\"")
+}
+
+/// Adds a member of a JSON object with a text, within quotation marks and as it is: nothing is escaped. `name` has the
+/// comma before it and the colon after it, as `,"side":`.
+///
+/// # Errors
+///
+/// [`AllocError`] only when out of memory.
+#[tactic(auto, unfolding(crate::specs::Words::text_member))]
+pub fn push_text_member(text: &mut Vec<u8>, name: &str, value: &[u8]) -> Result<(), AllocError>
+    ensures { OnOk result (text.new.items ≡ text.old.items ++ text_member name.now value.now) }
+{
+    push_word(text, name)?;
+    push_word(text, "\"")?;
+    text.extend_from_slice(value)?;
+    push_word(text, "\"")
+}
+
+/// Adds a member with bytes. The only error is running out of memory.
+#[tactic(auto, unfolding(crate::specs::Words::text_member))]
+pub fn push_bytes_member(text: &mut Vec<u8>, name: &str, bytes: &[u8]) -> Result<(), AllocError>
+    ensures { OnOk result (text.new.items ≡ text.old.items ++ bytes_member name.now bytes.now) }
+{
+    push_word(text, name)?;
+    push_word(text, "\"")?;
+    push_hex(text, bytes)?;
+    push_word(text, "\"")
+}
+
+/// Adds the list of the numbers of a side's writes in flight, in the order of posting. The only error is running out of
+/// memory.
+#[tactic(auto, unfolding(crate::specs::Words::numbers_list))]
+pub fn push_numbers_in(text: &mut Vec<u8>, side: &SideNumbers) -> Result<(), AllocError>
+    ensures { OnOk result (text.new.items ≡ text.old.items ++ numbers_list (numbers_in side.now.flight)) }
+{
+    push_word(text, "[")?;
+    for place in 0..side.in_flight() {
+        if place > 0 {
+            push_word(text, ",")?;
+        }
+        push_number(text, side.write_at(place).number)?;
+    }
+    push_word(text, "]")
+}
+
+/// Adds a label. The only error is running out of memory.
+pub fn push_label(text: &mut Vec<u8>, label: &Label) -> Result<(), AllocError>
+    ensures { OnOk result (text.new.items ≡ text.old.items ++ label_object label.now) }
+{
+    push_word(text, "{\"name\":\"")?;
+    push_word(text, label_name(label))?;
+    push_word(text, "\"")?;
+    push_label_members(text, label)?;
+    push_word(text, "}")
+}
+
+// Adds the numbers of a label.
+fn push_label_members(text: &mut Vec<u8>, label: &Label) -> Result<(), AllocError>
+    ensures { OnOk result (text.new.items ≡ text.old.items ++ label_members label.now) }
+{
+    match label {
+        Label::Chunk {
+            queue,
+            number,
+            part,
+        } => {
+            push_entry(text, *queue, *number)?;
+            push_number_member(text, ",\"part\":", u64::from(*part))
+        }
+        Label::Len { queue, number }
+        | Label::Ver { queue, number }
+        | Label::Flag { queue, number }
+        | Label::Down { queue, number }
+        | Label::Index { queue, number } => push_entry(text, *queue, *number),
+        Label::Bell { queue } => push_number_member(text, ",\"queue\":", u64::from(*queue)),
+        Label::Pad { index, value } => {
+            push_number_member(text, ",\"index\":", u64::from(*index))?;
+            push_number_member(text, ",\"value\":", u64::from(*value))
+        }
+        Label::Raw {
+            window,
+            offset,
+            len,
+        } => {
+            push_number_member(text, ",\"window\":", u64::from(*window))?;
+            push_number_member(text, ",\"offset\":", *offset)?;
+            push_number_member(text, ",\"len\":", u64::from(*len))
+        }
+    }
+}
+
+// Adds a queue and the number of an entry.
+fn push_entry(text: &mut Vec<u8>, queue: u32, number: u64) -> Result<(), AllocError>
+    ensures { OnOk result (text.new.items ≡ text.old.items ++ of_entry queue number) }
+{
+    push_number_member(text, ",\"queue\":", u64::from(queue))?;
+    push_number_member(text, ",\"number\":", number)
+}

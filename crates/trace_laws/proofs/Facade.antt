@@ -1,2 +1,0 @@
--- What crates above may cite of the proofs of this crate: the law of whole traces.
-pub use Rattle.trace_laws.proofs.LinesAreTrue.{traces_are_true}

@@ -1,5 +1,0 @@
-use Rattle.trace_laws.proofs.each_number_stands_once.Goals as goal
-use Rattle.trace_laws.proofs.NumbersStandOnce.{each_number_stands_once}
-
-pub returns : goal.returns
-returns c = each_number_stands_once

@@ -1,5 +1,0 @@
-use Rattle.trace_laws.proofs.LinesAreTrue.{traces_are_true}
-use Rattle.trace_laws.proofs.traces_are_true.Goals as goal
-
-pub returns : goal.returns
-returns c = traces_are_true

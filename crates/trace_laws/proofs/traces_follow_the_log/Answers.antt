@@ -1,5 +1,0 @@
-use Rattle.trace_laws.proofs.traces_follow_the_log.Goals as goal
-use Rattle.trace_laws.proofs.TracesFollow.{traces_follow_the_log}
-
-pub returns : goal.returns
-returns c = traces_follow_the_log

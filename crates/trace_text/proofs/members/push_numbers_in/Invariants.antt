@@ -1,8 +1,0 @@
--- The numbers of the writes before the place are in the text.
-use Rattle.std.proofs.Common.{◌≡◌, ◌++◌, take}
-use Rattle.trace_text.specs.Words.{separated}
-use Rattle.trace_text.specs.Writes.{numbers_in}
-use Rattle.trace_text.proofs.members.push_numbers_in.Given as goal
-
-abbrev pub invariant-loop-place : goal.invariant-loop-place
-invariant-loop-place l = l.text.items ≡ l.initial.text.items ++ separated (numbers_in (take l.place l.side.flight))
