@@ -16,7 +16,7 @@ use crate::ended::Ended;
 use crate::input::{Input, Stop, read_input};
 use crate::plain::write_reply;
 use cluster_run::StreamRecord;
-use command_reply::Status;
+use command_reply::{Reply, Status};
 use io_edges::{Gate, Sink, Source};
 use std::alloc::Global;
 use std::sync::Wait;
@@ -72,7 +72,11 @@ fn streams_of_input<R: Threads + Wait + Sync, S: Source, G: Gate>(
 {
     match read_input(alloc, true, source)? {
         Input::Whole(bytes) => Ok(stream_reply(rt, alloc, &bytes, gate)?),
-        Input::TooLong => Ok(TrafficReply::too_long(alloc)),
+        Input::TooLong => Ok(TrafficReply {
+            reply: Reply::too_long(),
+            recorded: None,
+            proofs: Vec::new(alloc),
+        }),
     }
 }
 

@@ -1,5 +1,5 @@
-//! The command `trace`: a plan's steps made one after another, and a line of JSON for each step with its answer, which
-//! says which of the writes in flight it concerns.
+//! The command `trace`: a plan's steps made one after another, and a line of JSON for each step with its answer. A line
+//! says which of the writes in flight the step concerns.
 //!
 //! A side's writes are numbered from 0 over the whole run, in the order in which they were posted. One that is lost as
 //! it is posted has none.

@@ -8,13 +8,16 @@ ghost use Rattle.io_edges.specs.Gates.{LetsWorkers};
 ghost use Rattle.cluster_run.specs.Lanes.{most_workers};
 ghost use Rattle.traffic_command.specs.Answers.{IsRunOf, IsRunOfPlan};
 ghost use Rattle.traffic_command.specs.Replies.{carried_by};
+ghost use Rattle.traffic_command.specs.Traffic.{IsRefusal};
 
 use crate::reply::TrafficReply;
 use cluster_run::run_plan;
+use command_reply::Reply;
 use io_edges::Gate;
 use report_text::record_text;
 use script_plan::Script;
 use script_text::{ParseError, read_script};
+use script_words::ScriptFault;
 use std::alloc::{AllocError, Global};
 use std::sync::Wait;
 use std::thread::Threads;
@@ -38,7 +41,7 @@ pub fn run_reply<R: Threads + Wait + Sync, G: Gate>(
 {
     match read_script(alloc, bytes) {
         Ok(script) => run_script(rt, alloc, &script, gate),
-        Err(ParseError::Fault(fault)) => Ok(TrafficReply::refused(alloc, fault)),
+        Err(ParseError::Fault(fault)) => Ok(refusal(alloc, fault)),
         Err(ParseError::OutOfMemory) => Err(AllocError),
     }
 }
@@ -56,5 +59,20 @@ fn run_script<R: Threads + Wait + Sync, G: Gate>(
 {
     let (run, proofs) = run_plan(rt, alloc, &script.declared, gate)?;
     let text = record_text(alloc, &script.declared, &run)?;
-    Ok(TrafficReply::done(text, run, proofs))
+    Ok(TrafficReply {
+        reply: Reply::done(text),
+        recorded: Some(run),
+        proofs,
+    })
+}
+
+// The reply to a script with a fault.
+fn refusal(alloc: Global, fault: ScriptFault) -> TrafficReply<RunRecord>
+    ensures { IsRefusal fault result.reply (carried_by result) }
+{
+    TrafficReply {
+        reply: Reply::refused(fault),
+        recorded: None,
+        proofs: Vec::new(alloc),
+    }
 }

@@ -8,13 +8,16 @@ ghost use Rattle.script_plan.specs.Scripts.{plan_in};
 ghost use Rattle.cluster_run.specs.stream.Workers.{most_stream_workers};
 ghost use Rattle.traffic_command.specs.Answers.{IsStreamOf, IsStreamOfPlan};
 ghost use Rattle.traffic_command.specs.Replies.{streamed_by};
+ghost use Rattle.traffic_command.specs.Traffic.{IsRefusal};
 
 use crate::reply::TrafficReply;
 use crate::text::streams_text;
 use cluster_run::{StreamRecord, run_stream};
+use command_reply::Reply;
 use io_edges::Gate;
 use script_plan::Script;
 use script_text::{ParseError, read_script};
+use script_words::ScriptFault;
 use std::alloc::{AllocError, Global};
 use std::sync::Wait;
 use std::thread::Threads;
@@ -37,7 +40,7 @@ pub fn stream_reply<R: Threads + Wait + Sync, G: Gate>(
 {
     match read_script(alloc, bytes) {
         Ok(script) => stream_script(rt, alloc, &script, gate),
-        Err(ParseError::Fault(fault)) => Ok(TrafficReply::refused(alloc, fault)),
+        Err(ParseError::Fault(fault)) => Ok(refusal(alloc, fault)),
         Err(ParseError::OutOfMemory) => Err(AllocError),
     }
 }
@@ -55,5 +58,20 @@ fn stream_script<R: Threads + Wait + Sync, G: Gate>(
 {
     let (streams, proofs) = run_stream(rt, alloc, &script.declared, gate)?;
     let text = streams_text(alloc, &script.declared, &streams)?;
-    Ok(TrafficReply::done(text, streams, proofs))
+    Ok(TrafficReply {
+        reply: Reply::done(text),
+        recorded: Some(streams),
+        proofs,
+    })
+}
+
+// The reply to a script with a fault.
+fn refusal(alloc: Global, fault: ScriptFault) -> TrafficReply<StreamRecord>
+    ensures { IsRefusal fault result.reply (streamed_by result) }
+{
+    TrafficReply {
+        reply: Reply::refused(fault),
+        recorded: None,
+        proofs: Vec::new(alloc),
+    }
 }
