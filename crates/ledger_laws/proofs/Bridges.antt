@@ -8,7 +8,7 @@ use Rattle.step_kinds.specs.declared.plan.Plan.{Plan}
 use Rattle.step_kinds.specs.declared.steps.Step.{Step}
 use Rattle.step_kinds.specs.declared.steps.Step.TheVariants.{Relay, Xnext}
 use Rattle.ledger_model.specs.Log.{Memories, log_of}
-use Rattle.ledger_laws.proofs.Facade.{log_of-last}
+use Rattle.ledger_laws.proofs.LogGrowth.{log_of-last}
 use Rattle.pair_model.specs.Switch.{first}
 use Rattle.ledger_model.specs.NetworkLog.{is_on_bridge, on_bridges}
 use Rattle.ledger_model.specs.Network.{Network, Action, action_of, begin_on, new_network, items_from, network_after, item_of, network_from, next_item, next_network, sends_first, sends_from}

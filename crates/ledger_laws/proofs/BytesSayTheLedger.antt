@@ -37,7 +37,15 @@ use Rattle.ledger_model.specs.Memory.{bytes_of_site, memory_of, site_of}
 use Rattle.ledger_laws.specs.Laws.{IsOrdinaryOn}
 use Rattle.ledger_laws.specs.Rings.{with_tail}
 use Rattle.ledger_laws.specs.States.{IsOfEntry, IsOnQueue}
-use Rattle.ledger_laws.proofs.Facade.{ring_law_of_receiver, index_word_is_tail, two_entries, entries_fit_the_ring, joined_means_agreement, labels_are_of_entries, on_queue, on_queue-labels, some_todo, some_wait, copying-not_idle, cleared-not_idle, phase_idle, phase_copying, joined_side_is_up, stopped_device_is_joined, busy_sender_is_joined, busy_receiver_is_joined, freed_were_begun, receiver_knows_its_frame}
+use Rattle.ledger_laws.proofs.EntriesFit.{entries_fit_the_ring}
+use Rattle.ledger_laws.proofs.FramesWithinMost.{freed_were_begun, receiver_knows_its_frame}
+use Rattle.ledger_laws.proofs.JoinedMeansAgreement.{joined_means_agreement}
+use Rattle.ledger_laws.proofs.JoinedOnSides.{some_todo, some_wait, copying-not_idle, cleared-not_idle, joined_side_is_up, stopped_device_is_joined, busy_sender_is_joined, busy_receiver_is_joined}
+use Rattle.ledger_laws.proofs.LabelsOfEntries.{labels_are_of_entries}
+use Rattle.ledger_laws.proofs.RingLawHolds.{ring_law_of_receiver, index_word_is_tail, two_entries}
+use Rattle.ledger_laws.proofs.RingOfLane.{phase_idle, phase_copying}
+use Rattle.ledger_laws.proofs.walk.SendingTurns.{on_queue-labels}
+use Rattle.ledger_laws.proofs.walk.Turn.{on_queue}
 use Rattle.ledger_laws.specs.Readings.{BytesSayTheLedger}
 use Rattle.ledger_laws.specs.StoredRings.{RingStandsAt, StandsAt}
 use Rattle.ledger_laws.proofs.OrdinarySteps.{permitted_are_ordinary}

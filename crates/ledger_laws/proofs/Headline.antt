@@ -11,7 +11,10 @@ use Rattle.step_kinds.specs.declared.steps.Step.{Step}
 use Rattle.step_kinds.specs.declared.steps.Step.TheVariants.{Relay, Xnext}
 use Rattle.ledger_model.specs.Log.{Answered, Memories, accepted, delivered, ledger_of, log_of, room_in, up_at}
 use Rattle.ledger_laws.specs.Laws.{Begins, NumberedFrom, entries_needed, is_again, is_link_down, lane_begun_by, needs_link, refused_earlier, times_of}
-use Rattle.ledger_laws.proofs.Facade.{again_where_no_room, every_frame_comes_once, every_log_is_in_order, link_down_where_not_up, log_of-last}
+use Rattle.ledger_laws.proofs.AgainWhereNoRoom.{again_where_no_room}
+use Rattle.ledger_laws.proofs.FramesInOrder.{every_frame_comes_once, every_log_is_in_order}
+use Rattle.ledger_laws.proofs.LinkDownWhereNotUp.{link_down_where_not_up}
+use Rattle.ledger_laws.proofs.LogGrowth.{log_of-last}
 use Rattle.pair_model.specs.Switch.{first, relay_answer}
 use Rattle.pair_model.specs.declared.RelayAnswer.{RelayAnswer}
 use Rattle.pair_model.specs.declared.RelayAnswer.TheVariants.{Nothing as NoFrame, Short as TooShort, Filtered as Dropped, To as ToPort, Flood as ToOthers}

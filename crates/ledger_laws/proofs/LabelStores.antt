@@ -20,7 +20,7 @@ use Rattle.pair_model.specs.Addresses.{own_address, peer_address}
 use Rattle.pair_model.specs.Stores.{Store}
 use Rattle.pair_model.proofs.Facade.{length-word_bytes}
 use Rattle.ledger_model.specs.Ledger.{PairPart, lane_of, entry_in}
-use Rattle.ledger_laws.proofs.Facade.{two_entries}
+use Rattle.ledger_laws.proofs.RingLawHolds.{two_entries}
 use Rattle.ledger_model.specs.Memory.{stored}
 use Rattle.ledger_model.specs.Targets.{store_of}
 use Rattle.ledger_laws.proofs.SlotStores.{Fills, LeavesSlot, IsOutside, outside_left, length_at, flags_at, header_size, version_size, version_word}

@@ -9,7 +9,7 @@ use Rattle.step_kinds.specs.declared.steps.Step.{Step}
 use Rattle.pair_model.specs.Plans.{pair_plan}
 use Rattle.ledger_model.specs.Log.{Answered}
 use Rattle.ledger_laws.specs.Laws.{made_on}
-use Rattle.ledger_laws.proofs.Facade.{pairs_are_separate}
+use Rattle.ledger_laws.proofs.PairsAreSeparate.{pairs_are_separate}
 use Rattle.ledger_model.specs.Memory.{Site, bytes_of_site, fresh_site, site_next, site_from, memory_of}
 use Rattle.ledger_laws.specs.Separate.{MemoriesKeepPairsApart, StoredPairsAreSeparate}
 

@@ -12,7 +12,7 @@ use Rattle.step_kinds.specs.declared.steps.Answer.TheVariants.{Delivered}
 use Rattle.step_kinds.specs.declared.steps.Step.{Step}
 use Rattle.step_kinds.specs.declared.steps.Step.TheVariants.{Copy, Relay, Xnext}
 use Rattle.ledger_model.specs.Log.{Memories, accepts, delivers, first_session, is_on, log_of}
-use Rattle.ledger_laws.proofs.Facade.{log_of-last}
+use Rattle.ledger_laws.proofs.LogGrowth.{log_of-last}
 use Rattle.pair_model.specs.Switch.{Switch, first, list_of, new_switch}
 use Rattle.ledger_model.specs.Network.{Network, OnBridge, Sends, begin_on, made_after, network_after, network_from, new_network, next_network, sends_first, sends_from, session_after, switches_reached}
 use Rattle.ledger_model.specs.Origins.{Carried, origins_kept}

@@ -9,7 +9,7 @@ use Rattle.step_kinds.specs.declared.plan.Plan.{Plan}
 use Rattle.step_kinds.specs.declared.steps.Step.{Step}
 use Rattle.ledger_model.specs.Log.{Answered, Memories, Numbered, accepted, accepts, delivered, delivers, first_session, log_of}
 use Rattle.ledger_laws.specs.Laws.{Begins, IsOrdinaryPair}
-use Rattle.ledger_laws.proofs.Facade.{every_log_is_in_order}
+use Rattle.ledger_laws.proofs.FramesInOrder.{every_log_is_in_order}
 use Rattle.ledger_model.specs.NetworkLog.{traced_network}
 use Rattle.ledger_model.specs.Origins.{Carried, Origin, Passage}
 use Rattle.ledger_model.specs.Paths.{deliveries, gone_back, leads, path_back, same_origin}

@@ -40,7 +40,10 @@ use Rattle.ledger_model.specs.Reading.{Reading, reading_of}
 use Rattle.ledger_model.specs.Receiving.{land_found}
 use Rattle.ledger_model.specs.Rings.{RingPart, fresh_ring, ring_next, ring_of}
 use Rattle.ledger_laws.specs.States.{IsOfLane, IsPostable}
-use Rattle.ledger_laws.proofs.Facade.{IsOfFrame, all_get, entries_are_of_frames, entries_fit_the_ring, labels_are_of_entries, labels_are_postable}
+use Rattle.ledger_laws.proofs.EntriesFit.{entries_fit_the_ring}
+use Rattle.ledger_laws.proofs.FollowersFew.{IsOfFrame, entries_are_of_frames}
+use Rattle.ledger_laws.proofs.LabelsOfEntries.{all_get, labels_are_of_entries}
+use Rattle.ledger_laws.proofs.LabelsPostable.{labels_are_postable}
 use Rattle.ledger_model.specs.Memory.{Site, bytes_of_site, fresh_site, memory_of, site_next, site_of, stores_by}
 use Rattle.ledger_laws.specs.StoredRings.{IsOrdinaryLane, RingsStandInMemory, StandsAt, header_of_slot}
 use Rattle.ledger_laws.proofs.LabelStores.{rings_in, is_five, same_queues, same_layout, own_at, entry_on, IsFitting}

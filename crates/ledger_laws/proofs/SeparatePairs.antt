@@ -13,7 +13,7 @@ use Rattle.step_kinds.specs.declared.steps.Step.{Step}
 use Rattle.step_kinds.specs.declared.steps.Step.TheVariants.{Relay, Xnext}
 use Rattle.ledger_model.specs.Log.{Memories, log_of}
 use Rattle.ledger_laws.specs.Laws.{made_on, steps_on}
-use Rattle.ledger_laws.proofs.Facade.{pairs_are_separate}
+use Rattle.ledger_laws.proofs.PairsAreSeparate.{pairs_are_separate}
 use Rattle.pair_model.specs.Switch.{first}
 use Rattle.ledger_model.specs.NetworkLog.{bridge_steps}
 use Rattle.ledger_model.specs.Network.{Action, Network, action_of, begin_on, network_after, network_from, new_network, next_network, sends_first, sends_from}

@@ -18,7 +18,7 @@ use Rattle.ledger_model.specs.Log.{Answered, Memories, answered, log_from, ledge
 use Rattle.ledger_model.specs.Next.{Ledger, start, outcome_in, pair_next, ledger_after}
 use Rattle.ledger_model.specs.Outcome.{Outcome}
 use Rattle.ledger_model.specs.Rings.{RingPart, fresh_ring, ring_next, ring_from, ring_of}
-use Rattle.ledger_laws.proofs.Facade.{ledger_of-last}
+use Rattle.ledger_laws.proofs.LogGrowth.{ledger_of-last}
 use Rattle.ledger_model.specs.Memory.{Site, bytes_of_site, memory_of, site_next, site_from, site_of}
 use Rattle.ledger_laws.specs.Readings.{SitesAreTheLedger}
 

@@ -18,7 +18,7 @@ use Rattle.pair_model.specs.Ethernet.{ethernet_frame}
 use Rattle.pair_model.specs.Plans.{dev_plan, pair_plan, side_plan}
 use Rattle.pair_model.specs.Sizes.{pieces_in, sizes_of}
 use Rattle.pair_model.specs.Headers.{Bytes, Found}
-use Rattle.ledger_laws.proofs.Facade.{acking}
+use Rattle.ledger_laws.proofs.walk.Cases.{acking}
 use Rattle.ledger_model.specs.Ledger.{LanePart, PairPart, side_of, lane_of, lane_to, dev_of, head_in, link_up, posts, with_lane, with_dev}
 use Rattle.ledger_model.specs.Next.{read_next}
 use Rattle.ledger_model.specs.Outcome.{Outcome, decided, refuse_if}

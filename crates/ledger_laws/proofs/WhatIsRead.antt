@@ -25,7 +25,7 @@ use Rattle.pair_model.specs.Addresses.{own_address, own_slot}
 use Rattle.pair_model.specs.Headers.{Bytes, NoEntry, ALinkDownEntry, AnotherVersion, TooManyBytes, AnEntry, Header, found_with, free_in_memory, header_in, header_with, word_at}
 use Rattle.pair_model.specs.Stores.{Store, byte_in, bytes_in}
 use Rattle.ledger_model.specs.Reading.{found_entry, has_window}
-use Rattle.ledger_laws.proofs.Facade.{on_queue}
+use Rattle.ledger_laws.proofs.walk.Turn.{on_queue}
 use Rattle.ledger_laws.specs.StoredRings.{header_of_slot}
 
 -- Rings of both sides

@@ -13,7 +13,7 @@ use Rattle.step_kinds.specs.declared.steps.Answer.{Answer}
 use Rattle.step_kinds.specs.declared.steps.Step.{Step}
 use Rattle.ledger_model.specs.NetworkLog.{switch_log}
 use Rattle.trace_command.specs.Laws.{HaveTheirAnswers, steps_of}
-use Rattle.trace_command.proofs.Facade.{traces_are_true}
+use Rattle.trace_command.proofs.LinesAreTrue.{traces_are_true}
 use Rattle.trace_command.specs.Answers.{HasTrueTrace, IsTraceOf, traced}
 
 answers_in : List Answered → List Answer
