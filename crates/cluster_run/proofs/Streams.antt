@@ -1,5 +1,5 @@
-mod EndOfSession
-mod NextFrame
-mod KeptItems
-mod StreamEnds
-mod StreamsByPlan
+pub mod EndOfSession
+pub mod NextFrame
+pub mod KeptItems
+pub mod StreamEnds
+pub mod StreamsByPlan
