@@ -9,7 +9,7 @@ ghost use Rattle.ntb_top.specs.Inputs.{HasReplied, HasWritten};
 ghost use Rattle.ntb_top.specs.Runs.{HasAnswered, HasRun};
 ghost use Rattle.ntb_top.specs.declared.command.Command.TheVariants.{Plain};
 
-use crate::check_reply;
+use crate::check::check_reply;
 use crate::command::{PlainCommand, plain_of};
 use crate::input::{Input, Stop, read_input};
 use command_reply::{Reply, Status};

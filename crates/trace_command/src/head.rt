@@ -9,7 +9,8 @@ ghost use Rattle.pair_model.specs.Sizes.{agreed_version as version_of};
 ghost use Rattle.trace_command.specs.Head.{head, pair_line, ring_after, ring_object, side_object};
 ghost use Rattle.trace_command.specs.Words.{truth_text};
 
-use crate::{push_first_line, push_number_member, push_text_member};
+use crate::ending::push_first_line;
+use crate::members::{push_number_member, push_text_member};
 use plan_numbers::{sending_ring, side_plan, speaks_five};
 use report_text::append::push_word;
 use std::alloc::AllocError;

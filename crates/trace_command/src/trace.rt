@@ -10,8 +10,10 @@ ghost use Rattle.replay_command.specs.Replays.{device_counts as counts_of_device
 ghost use Rattle.trace_command.specs.Lines.{ending};
 ghost use Rattle.trace_command.specs.Trace.{trace_start, trace_text as text_of_plan, with_line};
 
+use crate::ending::push_ending;
 use crate::head::push_head;
-use crate::{WriteNumbers, push_ending, push_step_line};
+use crate::lines::push_step_line;
+use crate::writes::WriteNumbers;
 use cluster_core::Cluster;
 use replay_command::replay::{device_counts, lane_counts};
 use replay_command::steps::{KeepsAnswers, make_steps};
