@@ -1,8 +1,7 @@
 """The rules of scripts, written a second time from docs/FORMATS.md: what `check` says of a script.
 
-`said_of` judges a script. It asks no program and shares no code with one,
-so that the rows of tools/script_rows say what is
-right, and not what the program does.
+`said_of` judges a script. It asks no program and shares no code with one, so that the rows of tools/script_rows say
+what is right, and not what the program does.
 """
 
 import re
