@@ -1,4 +1,4 @@
-use Rattle.trace_command.proofs.traces_follow_the_log.Goals as goal
+use Rattle.trace_command.proofs.laws.traces_follow_the_log.Goals as goal
 use Rattle.trace_command.proofs.TracesFollow.{traces_follow_the_log}
 
 pub returns : goal.returns
