@@ -3,9 +3,9 @@
 ghost use Rattle.std.specs.Prelude.{◌≡◌, []};
 ghost use Rattle.traffic_plan.specs.Load.{plan_of};
 
-use report_text::{LaneCount, report};
+use report_text::report;
 use std::alloc::{AllocError, Global};
-use step_kinds::{Answer, LaneName, LineAnswer, Plan, Side};
+use step_kinds::{Answer, LaneCount, LaneName, LineAnswer, Plan, Side};
 use traffic_plan::load_without_steps;
 
 // The report of one answer, and of one frame that was accepted and not delivered.

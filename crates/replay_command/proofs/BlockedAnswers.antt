@@ -3,7 +3,7 @@ use Rattle.std.proofs.Common.{◌≡◌, ◌∙◌, ℕ, zero, suc, replicate, �
 use Rattle.std.specs.List.{fold}
 use Rattle.step_kinds.specs.declared.plan.Line.{Line}
 use Rattle.ledger_model.specs.Log.{Answered}
-use Rattle.report_text.specs.Report.{AnsweredStep}
+use Rattle.step_kinds.specs.AnsweredSteps.{AnsweredStep}
 use Rattle.replay_command.specs.ReplaySteps.{with_blocked}
 use Rattle.replay_command.specs.Replays.{answered_steps, is_blocked}
 

@@ -16,7 +16,7 @@ use Rattle.step_kinds.specs.declared.plan.Plan.{Plan}
 use Rattle.pair_model.specs.Plans.{dev_plan, no_dev, no_pair, pair_plan}
 use Rattle.ledger_model.specs.Log.{Answered, counters_in, lane_of_device}
 use Rattle.report_text.specs.Report.{count_line, count_lines}
-use Rattle.report_text.specs.declared.whole.LaneCount.{LaneCount}
+use Rattle.step_kinds.specs.declared.plan.LaneCount.{LaneCount}
 use Rattle.replay_command.specs.ReplaySteps.{HasQueues, counts_some, filled, lanes_from}
 use Rattle.replay_command.specs.Replays.{last_session, lane_count, lane_counts, lanes_of_pair, sessions_of_lane}
 

@@ -15,7 +15,7 @@ use Rattle.cluster_core.specs.Cluster.{ClusterState, plan_held}
 use Rattle.cluster_core.specs.LogClauses.{HasMade, IsAnswered}
 use Rattle.cluster_core.specs.Refusals.{RefusedAgain, is_plain}
 use Rattle.replay_command.specs.ReplaySteps.{HasKept}
-use Rattle.report_text.specs.Report.{AnsweredStep}
+use Rattle.step_kinds.specs.AnsweredSteps.{AnsweredStep}
 use Rattle.replay_command.proofs.StepsMade.{kept_both, kept_none, kept_one, step_in}
 
 -- no step that a line repeats is a device's

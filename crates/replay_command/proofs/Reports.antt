@@ -13,8 +13,9 @@ use Rattle.cluster_core.specs.Cluster.{ClusterState, plan_held}
 use Rattle.cluster_core.specs.LogClauses.{HasMade}
 use Rattle.ledger_model.specs.Log.{Answered, accepted, counters_in, delivered, lane_of_device}
 use Rattle.step_kinds.specs.declared.plan.Line.{Line}
-use Rattle.report_text.specs.Report.{AnsweredStep, answer_line, device_lines, end_line, ending}
-use Rattle.report_text.specs.declared.whole.LaneCount.{LaneCount}
+use Rattle.report_text.specs.Report.{answer_line, device_lines, end_line, ending}
+use Rattle.step_kinds.specs.AnsweredSteps.{AnsweredStep}
+use Rattle.step_kinds.specs.declared.plan.LaneCount.{LaneCount}
 use Rattle.replay_command.specs.ReplaySteps.{HasReplayed, filled}
 use Rattle.replay_command.specs.Replays.{answered_steps, answers_text, device_counts, lane_counts, load_lane, load_text, log_of_plan, replay_text, summary_text}
 use Rattle.replay_command.proofs.LaneCounts.{all_known, lines_of_filled}

@@ -18,7 +18,7 @@ use Rattle.cluster_core.specs.Cluster.{ClusterState, plan_held}
 use Rattle.cluster_core.specs.LogClauses.{HasMade, IsAnswered, log_after}
 use Rattle.step_list.specs.StepLists.{all_lines, lines_in}
 use Rattle.step_list.specs.declared.step_list.Stretch.{Stretch}
-use Rattle.report_text.specs.Report.{AnsweredStep}
+use Rattle.step_kinds.specs.AnsweredSteps.{AnsweredStep}
 use Rattle.replay_command.specs.ReplaySteps.{HasKept, HasReplayed}
 use Rattle.replay_command.specs.Replays.{answered_steps}
 

@@ -13,8 +13,8 @@ use Rattle.pair_model.specs.Plans.{pair_plan}
 use Rattle.ledger_model.specs.Log.{Answered}
 use Rattle.cluster_core.specs.Cluster.{ClusterState, plan_held}
 use Rattle.cluster_core.specs.LogClauses.{HasMade, log_after}
-use Rattle.report_text.specs.Report.{AnsweredStep}
-use Rattle.report_text.specs.declared.whole.LaneCount.{LaneCount}
+use Rattle.step_kinds.specs.AnsweredSteps.{AnsweredStep}
+use Rattle.step_kinds.specs.declared.plan.LaneCount.{LaneCount}
 use Rattle.replay_command.specs.Replays.{answered_steps, is_blocked}
 
 -- the cluster has made the steps of these lines of a plan, and keeps what the plan declares

@@ -15,9 +15,10 @@ use Rattle.pair_model.specs.Plans.{pair_plan}
 use Rattle.ledger_model.specs.Log.{Answered, accepted, counters_in, delivered, first_session, lane_of_device, trains}
 use Rattle.ledger_model.specs.Memory.{memory_of}
 use Rattle.ledger_model.specs.NetworkLog.{switch_log}
-use Rattle.report_text.specs.Report.{AnsweredStep, answer_line, line_of, report_of}
+use Rattle.report_text.specs.Report.{answer_line, line_of, report_of}
+use Rattle.step_kinds.specs.AnsweredSteps.{AnsweredStep}
 use Rattle.report_text.specs.Texts.{numbers_text}
-use Rattle.report_text.specs.declared.whole.LaneCount.{LaneCount}
+use Rattle.step_kinds.specs.declared.plan.LaneCount.{LaneCount}
 use Rattle.traffic_plan.specs.Load.{load_of}
 
 -- the log of all steps of a plan, its switches among it

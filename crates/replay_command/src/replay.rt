@@ -18,10 +18,10 @@ ghost use Rattle.replay_command.specs.Replays.{
 
 use crate::steps::{KeepsAnswers, make_steps};
 use cluster_core::Cluster;
-use report_text::{AnswerLines, LaneCount, push_ending};
+use report_text::{AnswerLines, push_ending};
 use script_plan::Script;
 use std::alloc::{AllocError, Global};
-use step_kinds::{Counters, LaneName, LineAnswer, Side, Step};
+use step_kinds::{Counters, LaneCount, LaneName, LineAnswer, Side, Step};
 
 impl KeepsAnswers for AnswerLines {
     ghost with_answer = { λ text answered. text ++ answer_line answered.made };

@@ -11,7 +11,7 @@ ghost use Rattle.step_list.specs.StepLists.{lines_in};
 ghost use Rattle.cluster_core.specs.Cluster.{plan_held};
 ghost use Rattle.step_kinds.specs.Answers.{is_made};
 ghost use Rattle.replay_command.specs.ReplaySteps.{HasKept, HasReplayed};
-ghost use Rattle.report_text.specs.Report.{AnsweredStep};
+ghost use Rattle.step_kinds.specs.AnsweredSteps.{AnsweredStep};
 
 use cluster_core::{Cluster, refused_again};
 use std::alloc::AllocError;

@@ -11,10 +11,9 @@ use Rattle.step_kinds.specs.declared.plan.DevPlan.{DevPlan}
 use Rattle.step_kinds.specs.declared.plan.LineAnswer.{LineAnswer}
 use Rattle.step_kinds.specs.declared.plan.PairPlan.{PairPlan}
 use Rattle.step_kinds.specs.declared.plan.Plan.{Plan}
-use Rattle.step_kinds.specs.declared.steps.Step.{Step}
 use Rattle.pair_model.specs.Plans.{no_pair}
 use Rattle.report_text.specs.Texts.{answer_text, frame_text, numbers_text}
-use Rattle.report_text.specs.declared.whole.LaneCount.{LaneCount}
+use Rattle.step_kinds.specs.declared.plan.LaneCount.{LaneCount}
 
 -- a line of text
 abbrev pub line_of : List ℕ → List ℕ
@@ -23,11 +22,6 @@ line_of text = text ++ 10 ∷ []
 -- the line of an answer to a step of a script's line
 abbrev pub answer_line : LineAnswer → List ℕ
 answer_line made = line_of (decimal made.line ++ 32 ∷ answer_text made.answer)
-
--- a step that was made, with its line and its answer
-pub record AnsweredStep : Type 0 where
-  pub step : Step
-  pub made : LineAnswer
 
 abbrev pub side_text : Side → List ℕ
 side_text A = codes "A"

@@ -14,4 +14,4 @@ pub use answer_lines::{AnswerLines, push_answer_line};
 pub use answers::{push_answer, text_of};
 pub use run::record_text;
 pub use stream::push_stream;
-pub use whole::{LaneCount, push_ending, report};
+pub use whole::{push_ending, report};

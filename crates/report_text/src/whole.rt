@@ -7,20 +7,7 @@ ghost use Rattle.report_text.specs.Report.{answer_line, count_lines, device_line
 use crate::answer_lines::AnswerLines;
 use crate::append::{push_numbers, push_word};
 use std::alloc::{AllocError, Global};
-use step_kinds::{Counters, DevPlan, LaneName, LineAnswer, PairPlan, Plan, Side};
-
-/// What a lane accepted and delivered in a link session, in frames.
-#[derive(Clone, Copy, Debug, PartialEq, Eq)]
-pub struct LaneCount {
-    /// The lane.
-    pub name: LaneName,
-    /// The link session, from 1.
-    pub session: u32,
-    /// The frames that were accepted.
-    pub accepted: u64,
-    /// The frames that were delivered.
-    pub delivered: u64,
-}
+use step_kinds::{Counters, DevPlan, LaneCount, LaneName, LineAnswer, PairPlan, Plan, Side};
 
 /// The report of a replay: a line for each answer in order, with the number of its script line. Then come a line for
 /// each lane and session where a frame was accepted or delivered, a line for each device of the plan, and `end`. The

@@ -15,6 +15,7 @@ mod names;
 mod places;
 mod plan;
 mod runs;
+mod shapes;
 mod steps;
 
 pub use frame::Frame;
@@ -25,7 +26,8 @@ pub use lanes::{Begun, LaneCopy};
 pub use names::{LaneName, Name, Side};
 pub use places::{BridgeStep, QueueStep, SideStep, StepPlace, SwitchStep};
 pub use plan::{
-    Counters, DevPlan, Line, LineAnswer, PairPlan, Plan, SidePlan, SwitchPlan, Traffic,
+    Counters, DevPlan, LaneCount, Line, LineAnswer, PairPlan, Plan, SidePlan, SwitchPlan, Traffic,
 };
 pub use runs::{LaneRun, RunRecord, SessionRun};
+pub use shapes::{NamedNumber, NumberName, Numbers, Shape, ShapeEnd};
 pub use steps::{Answer, Label, Step};

@@ -144,3 +144,16 @@ pub struct Counters {
     /// Shorter frames that were delivered.
     pub short: u64,
 }
+
+/// What a lane accepted and delivered in a link session, in frames.
+#[derive(Clone, Copy, Debug, PartialEq, Eq)]
+pub struct LaneCount {
+    /// The lane.
+    pub name: LaneName,
+    /// The link session, from 1.
+    pub session: u32,
+    /// The frames that were accepted.
+    pub accepted: u64,
+    /// The frames that were delivered.
+    pub delivered: u64,
+}

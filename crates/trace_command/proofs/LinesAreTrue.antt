@@ -16,7 +16,7 @@ use Rattle.ledger_model.specs.NetworkLog.{bridge_steps, network_of}
 use Rattle.ledger_model.specs.Network.{Network, items_from, network_from, new_network, next_item, next_network}
 use Rattle.ledger_model.specs.Origins.{bytes_kept}
 use Rattle.ledger_laws.proofs.Facade.{bridges_have_a_log}
-use Rattle.report_text.specs.Report.{AnsweredStep}
+use Rattle.step_kinds.specs.AnsweredSteps.{AnsweredStep}
 use Rattle.trace_command.specs.Writes.{PairWrites, SideWrites, number_at, numbers_in, stopped_by}
 use Rattle.trace_command.specs.Laws.{HaveTheirAnswers, IsStoppedBy, dropped_numbers, how_often, landed_numbers, posted_labels, side_writes, steps_of}
 use Rattle.trace_command.specs.Traces.{TracesAreTrue, bridges_after, traced_side}

@@ -10,7 +10,7 @@ use Rattle.step_kinds.specs.declared.steps.Step.{Step}
 use Rattle.step_kinds.specs.declared.steps.Step.TheVariants.{Train, Break, DropDone, Offer, Ready, Post, Land, Ack, Spad, Poke}
 use Rattle.step_kinds.specs.Answers.{is_made}
 use Rattle.pair_model.specs.Plans.{no_pair}
-use Rattle.report_text.specs.Report.{AnsweredStep}
+use Rattle.step_kinds.specs.AnsweredSteps.{AnsweredStep}
 use Rattle.trace_command.specs.Lines.{step_line}
 use Rattle.trace_command.specs.Writes.{PairWrites, change_by, pair_after, pair_in, pair_start, writes_after}
 use Rattle.step_kinds.specs.declared.plan.LineAnswer.{LineAnswer}

@@ -8,7 +8,8 @@ use Rattle.step_kinds.specs.declared.plan.LineAnswer.{LineAnswer}
 use Rattle.step_kinds.specs.declared.plan.Plan.{Plan}
 use Rattle.step_kinds.specs.declared.steps.Step.{Step}
 use Rattle.step_kinds.specs.declared.steps.Step.TheVariants.{Xbegin}
-use Rattle.report_text.specs.Report.{AnsweredStep, line_of}
+use Rattle.report_text.specs.Report.{line_of}
+use Rattle.step_kinds.specs.AnsweredSteps.{AnsweredStep}
 use Rattle.trace_command.specs.Lines.{change_members, made_member, step_line, step_lines}
 use Rattle.trace_command.specs.Steps.{answer_object, step_members, step_name}
 use Rattle.trace_command.specs.Words.{named_object}

@@ -1,7 +1,7 @@
 -- The lines of a trace, kept one after another, are those of its definition.
 use Rattle.std.proofs.Common.{◌≡◌, ◌∙◌, ℕ, List, [], ◌∷◌, ◌++◌, sym, append-nil, append_assoc}
 use Rattle.std.specs.List.{fold}
-use Rattle.report_text.specs.Report.{AnsweredStep}
+use Rattle.step_kinds.specs.AnsweredSteps.{AnsweredStep}
 use Rattle.trace_command.specs.Lines.{step_line, step_lines}
 use Rattle.trace_command.specs.Trace.{Traced, with_line}
 

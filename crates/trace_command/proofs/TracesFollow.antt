@@ -22,7 +22,7 @@ use Rattle.ledger_model.specs.NetworkLog.{is_on_bridge, on_bridges}
 use Rattle.ledger_model.specs.Network.{Action, Network, action_of, item_of, items_from, new_network, next_item, next_network, sends_first, sends_from}
 use Rattle.ledger_model.specs.Origins.{bytes_kept}
 use Rattle.ledger_model.specs.Ports.{Port, port_on, switch_of}
-use Rattle.report_text.specs.Report.{AnsweredStep}
+use Rattle.step_kinds.specs.AnsweredSteps.{AnsweredStep}
 use Rattle.trace_command.specs.Writes.{PairWrites, change_by, pair_after, pair_in, pair_start, writes_after}
 use Rattle.trace_command.specs.declared.changes.Change.TheVariants.{Nothing}
 use Rattle.trace_command.specs.Laws.{TracesFollowTheLog, steps_of, with_item}

@@ -5,8 +5,8 @@ use Rattle.step_kinds.specs.declared.plan.Counters.{Counters}
 use Rattle.step_kinds.specs.declared.plan.Line.{Line}
 use Rattle.step_kinds.specs.declared.plan.PairPlan.{PairPlan}
 use Rattle.step_kinds.specs.declared.plan.Plan.{Plan}
-use Rattle.report_text.specs.Report.{AnsweredStep}
-use Rattle.report_text.specs.declared.whole.LaneCount.{LaneCount}
+use Rattle.step_kinds.specs.AnsweredSteps.{AnsweredStep}
+use Rattle.step_kinds.specs.declared.plan.LaneCount.{LaneCount}
 use Rattle.replay_command.specs.ReplaySteps.{filled}
 use Rattle.replay_command.specs.Replays.{answered_steps, device_counts, lane_counts, log_of_plan}
 use Rattle.trace_command.specs.Lines.{count_lines, device_lines, end_line, ending, lane_line, step_lines}

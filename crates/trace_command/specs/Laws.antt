@@ -21,7 +21,7 @@ use Rattle.ledger_model.specs.Log.{Answered, Memories, log_of}
 use Rattle.ledger_laws.specs.Flights.{in_flight}
 use Rattle.ledger_laws.specs.Laws.{GoesOn}
 use Rattle.ledger_model.specs.NetworkLog.{on_bridges, switch_log}
-use Rattle.report_text.specs.Report.{AnsweredStep}
+use Rattle.step_kinds.specs.AnsweredSteps.{AnsweredStep}
 use Rattle.trace_command.specs.Writes.{PairWrites, SideWrites, change_by, goes_through, number_at, numbers_in, pair_after, pair_in, pair_start, stopped_by, writes_after, writes_start}
 use Rattle.trace_command.specs.declared.changes.Change.{Change}
 use Rattle.trace_command.specs.declared.changes.Change.TheVariants.{Drops, Lands, Nothing}

@@ -13,8 +13,9 @@ use Rattle.step_kinds.specs.declared.names.LaneName.{LaneName}
 use Rattle.step_kinds.specs.declared.steps.Answer.{Answer}
 use Rattle.step_kinds.specs.declared.steps.Step.{Step}
 use Rattle.pair_model.specs.Both.{at_side}
-use Rattle.report_text.specs.Report.{AnsweredStep, line_of, pair_name, side_text}
-use Rattle.report_text.specs.declared.whole.LaneCount.{LaneCount}
+use Rattle.report_text.specs.Report.{line_of, pair_name, side_text}
+use Rattle.step_kinds.specs.AnsweredSteps.{AnsweredStep}
+use Rattle.step_kinds.specs.declared.plan.LaneCount.{LaneCount}
 use Rattle.trace_command.specs.Steps.{answer_object, step_object}
 use Rattle.trace_command.specs.Words.{number_member, numbers_list, text_member, truth_text}
 use Rattle.trace_command.specs.Writes.{PairWrites, change_in, number_at, numbers_in, pair_in, stopped_by, writes_after}

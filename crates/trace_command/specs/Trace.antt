@@ -2,7 +2,7 @@
 use Rattle.std.specs.Prelude.{ℕ, List, ◌++◌}
 use Rattle.step_kinds.specs.declared.plan.Plan.{Plan}
 use Rattle.replay_command.specs.Replays.{answered_steps, device_counts, lane_counts, log_of_plan}
-use Rattle.report_text.specs.Report.{AnsweredStep}
+use Rattle.step_kinds.specs.AnsweredSteps.{AnsweredStep}
 use Rattle.trace_command.specs.Lines.{ending, step_line, step_lines}
 use Rattle.trace_command.specs.Head.{head}
 use Rattle.trace_command.specs.Writes.{PairWrites, writes_after, writes_start}

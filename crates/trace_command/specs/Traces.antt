@@ -9,7 +9,7 @@ use Rattle.step_kinds.specs.declared.steps.Step.TheVariants.{Land}
 use Rattle.ledger_model.specs.Log.{Answered, Memories}
 use Rattle.pair_model.specs.Both.{at_side}
 use Rattle.ledger_model.specs.NetworkLog.{on_bridges, switch_log}
-use Rattle.report_text.specs.Report.{AnsweredStep}
+use Rattle.step_kinds.specs.AnsweredSteps.{AnsweredStep}
 use Rattle.trace_command.specs.Writes.{SideWrites, number_at, numbers_in, pair_in, stopped_by}
 use Rattle.trace_command.specs.Laws.{HaveTheirAnswers, IsStoppedBy, dropped_numbers, how_often, landed_numbers, posted_labels, steps_of, traced_writes}
 

@@ -6,10 +6,9 @@ ghost use Rattle.trace_command.specs.Lines.{count_lines, count_members, counter_
 use crate::members::{push_number_member, push_text_member};
 use crate::steps::push_pair_name;
 use crate::words::side_name;
-use report_text::LaneCount;
 use report_text::append::push_word;
 use std::alloc::AllocError;
-use step_kinds::{Counters, DevPlan, LaneName, PairPlan, Plan};
+use step_kinds::{Counters, DevPlan, LaneCount, LaneName, PairPlan, Plan};
 
 /// Adds the first line of a trace, with the version of its form. The only error is running out of memory.
 pub fn push_first_line(text: &mut Vec<u8>) -> Result<(), AllocError>

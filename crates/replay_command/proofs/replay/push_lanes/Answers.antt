@@ -3,7 +3,7 @@ use Rattle.std.specs.List.{flat_map}
 use Rattle.step_kinds.specs.declared.names.LaneName.{LaneName}
 use Rattle.ledger_model.specs.Log.{Answered}
 use Rattle.cluster_core.specs.LogClauses.{log_after}
-use Rattle.report_text.specs.declared.whole.LaneCount.{LaneCount}
+use Rattle.step_kinds.specs.declared.plan.LaneCount.{LaneCount}
 use Rattle.replay_command.specs.ReplaySteps.{filled, lanes_from}
 use Rattle.replay_command.specs.Replays.{sessions_of_lane}
 use Rattle.replay_command.proofs.LaneCounts.{adds_both, lanes_more}

@@ -2,7 +2,7 @@ use Rattle.std.proofs.Common.{◌+◌, [], ◌∷◌, ◌++◌, List, map, ap, s
 use Rattle.std.specs.List.{range_with_len}
 use Rattle.ledger_model.specs.Log.{Answered}
 use Rattle.cluster_core.specs.LogClauses.{log_after}
-use Rattle.report_text.specs.declared.whole.LaneCount.{LaneCount}
+use Rattle.step_kinds.specs.declared.plan.LaneCount.{LaneCount}
 use Rattle.replay_command.specs.ReplaySteps.{filled}
 use Rattle.replay_command.specs.Replays.{lane_count}
 use Rattle.replay_command.proofs.LaneCounts.{adds_both, sessions_more}

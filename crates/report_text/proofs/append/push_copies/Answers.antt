@@ -1,4 +1,4 @@
-use Rattle.std.proofs.Common.{◌≡◌, ℕ, ◌+◌, List, ◌++◌, ap, ◌∙◌, append_assoc}
+use Rattle.std.proofs.Common.{◌++◌, ap, ◌∙◌, append_assoc}
 use Rattle.std.specs.List.{repeat}
 use Rattle.report_text.proofs.Repeats.{repeat_more}
 use Rattle.report_text.proofs.append.push_copies.Goals as goal

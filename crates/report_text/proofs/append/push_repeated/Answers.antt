@@ -1,5 +1,4 @@
-use Rattle.std.proofs.Common.{◌≡◌, ℕ, List, ◌++◌, ap, ◌∙◌, append_assoc, arith}
-use Rattle.std.specs.List.{repeat}
+use Rattle.std.proofs.Common.{append_assoc, arith}
 use Rattle.report_text.proofs.Repeats.{repeat_by_blocks}
 use Rattle.report_text.proofs.append.push_repeated.Goals as goal
 

@@ -1,6 +1,6 @@
 use Rattle.std.proofs.Common.{◌≡◌, ◌∙◌, ◌++◌, [], List, refl, ap, sym}
 use Rattle.ledger_model.specs.Log.{Answered}
-use Rattle.report_text.specs.Report.{AnsweredStep}
+use Rattle.step_kinds.specs.AnsweredSteps.{AnsweredStep}
 use Rattle.replay_command.specs.Replays.{answered_steps, log_of_plan}
 use Rattle.trace_command.specs.Lines.{step_lines}
 use Rattle.trace_command.specs.Writes.{writes_start}

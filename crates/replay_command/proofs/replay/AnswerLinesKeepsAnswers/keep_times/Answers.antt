@@ -1,6 +1,6 @@
 use Rattle.std.proofs.Common.{◌∙◌}
 use Rattle.std.proofs.lemmas.Result.{on_ok_weaker}
-use Rattle.report_text.specs.Report.{AnsweredStep}
+use Rattle.step_kinds.specs.AnsweredSteps.{AnsweredStep}
 use Rattle.replay_command.proofs.Reports.{lines_again}
 use Rattle.replay_command.proofs.replay.AnswerLinesKeepsAnswers.keep_times.Goals as goal
 

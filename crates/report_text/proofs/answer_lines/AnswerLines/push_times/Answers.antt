@@ -1,4 +1,4 @@
-use Rattle.std.proofs.Common.{◌≡◌, ℕ, List, ◌++◌, append_assoc, append-nil, arith}
+use Rattle.std.proofs.Common.{append_assoc, append-nil, arith}
 use Rattle.report_text.specs.Report.{answer_line}
 use Rattle.report_text.proofs.Repeats.{lines_of_copies}
 use Rattle.report_text.proofs.answer_lines.AnswerLines.push_times.Goals as goal

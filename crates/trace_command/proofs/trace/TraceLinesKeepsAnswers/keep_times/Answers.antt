@@ -1,6 +1,6 @@
 use Rattle.std.proofs.Common.{◌≡◌, ◌∙◌, ◌++◌, ℕ, List, ap, arith, replicate}
 use Rattle.std.specs.List.{fold}
-use Rattle.report_text.specs.Report.{AnsweredStep}
+use Rattle.step_kinds.specs.AnsweredSteps.{AnsweredStep}
 use Rattle.trace_command.specs.Trace.{Traced, with_line}
 use Rattle.trace_command.proofs.RefusedLines.{line_apart, line_more, traced_is}
 use Rattle.trace_command.proofs.trace.TraceLinesKeepsAnswers.keep_times.Goals as goal
