@@ -28,7 +28,8 @@ use Rattle.fabric_core.specs.Refusals.{refused_in as refused_on_bridges}
 use Rattle.fabric_core.specs.Wants.{MayWant}
 use Rattle.fabric_core.proofs.Facade.{due_wanted}
 use Rattle.pair_model.specs.Fdb.{destination, is_multicast, learned_source, lookup, source}
-use Rattle.pair_model.specs.Switch.{Switch, after, answer_of as answer_to, first, forward_answer, frame_answer, header_bytes, list_of, new_switch, unicast_answer}
+use Rattle.pair_model.specs.Ethernet.{ethernet_header}
+use Rattle.pair_model.specs.Switch.{Switch, after, answer_of as answer_to, first, forward_answer, frame_answer, list_of, new_switch, unicast_answer}
 use Rattle.pair_model.specs.declared.RelayAnswer.{RelayAnswer}
 use Rattle.pair_model.specs.declared.RelayAnswer.TheVariants.{Nothing, Short, Filtered, To, Flood}
 use Rattle.pair_model.specs.declared.Station.{Station}
@@ -129,7 +130,7 @@ made_unicast ports port (Some target) = made_either (target == port) Filtered (T
 made_of_frame : (ports : ℕ) (fdb : List Station) (port : ℕ) (bytes : List ℕ) → is_made (relay_answer_of (frame_answer ports fdb port bytes)) ≡ true
 made_of_frame ports fdb port bytes =
     let known = learned_source fdb port (source bytes) in
-    made_either (nat_lt (length bytes) header_bytes) (Short (length bytes)) (forward_answer ports known port (destination bytes)) refl
+    made_either (nat_lt (length bytes) ethernet_header) (Short (length bytes)) (forward_answer ports known port (destination bytes)) refl
     (made_either (is_multicast (destination bytes)) (Flood (ports - 1)) (unicast_answer ports port (lookup known (destination bytes))) refl
     (made_unicast ports port (lookup known (destination bytes))))
 

@@ -1,9 +1,7 @@
 -- Numbers that could grow without end: where one of them is this large, out of memory is answered before it is needed.
-use Rattle.std.specs.Prelude.{ℕ, ◌<◌, ◌^◌}
+use Rattle.std.specs.Prelude.{◌<◌}
+use Rattle.step_kinds.specs.Limits.{most_count}
 use Rattle.step_kinds.specs.declared.plan.Counters.{Counters}
-
-abbrev pub most_count : ℕ
-most_count = 2 ^ 62
 
 -- one more frame can be counted as sent or refused
 pub record HasRoomToSend (counters : Counters) : Type 0 where

@@ -1,5 +1,6 @@
 -- What a call on a queue needs of the queue and of its pair, and what comes of it.
 use Rattle.std.specs.Prelude.{ℕ, ◌≡◌, ◌≤◌, ◌⊎◌, Bool, false, true, IfOk, OnErr, OnOk, Result}
+use Rattle.step_kinds.specs.Limits.{most_count}
 use Rattle.step_kinds.specs.declared.plan.Counters.{Counters}
 use Rattle.step_kinds.specs.declared.steps.Answer.{Answer}
 use Rattle.step_kinds.specs.declared.steps.Answer.TheVariants.{OkNumber, ReadyFrame}
@@ -10,7 +11,6 @@ use Rattle.frame_ring.specs.PortView.{FitsRings, HasPagesIn, HasRoomIn}
 use Rattle.queue_pair.specs.Gates.{is_joined}
 use Rattle.queue_pair.specs.Queue.{QueueState}
 use Rattle.fabric_rule.specs.Parts.{QueuePart, plain_bridge}
-use Rattle.fabric_core.specs.Numbers.{most_count}
 use Rattle.fabric_core.specs.Parts.{KeepsPort}
 use Rattle.fabric_rule.specs.Turns.{QueueTurn}
 

@@ -1,5 +1,5 @@
 -- The frames of each session, counted one session at one place.
-use Rattle.std.specs.Prelude.{◌≡◌, ◌≢◌, ℕ, ◌<◌, ◌≤◌, ◌^◌, Bool, false, List, [], length, slice_index_or}
+use Rattle.std.specs.Prelude.{◌≡◌, ◌≢◌, ℕ, ◌<◌, ◌≤◌, Bool, false, List, [], length, slice_index_or}
 use Rattle.fabric_rule.specs.Parts.{SessionCount}
 use Rattle.fabric_core.specs.declared.counts.OfSession.{OfSession}
 
@@ -17,10 +17,6 @@ count_seen one = record { session = one.session; count = one.count }
 -- stands where there is no place
 abbrev pub no_count : SessionCount
 no_count = record { session = 0; count = 0 }
-
--- how many frames can be counted before out of memory is answered
-abbrev pub most_frames : ℕ
-most_frames = 2 ^ 62
 
 -- each session is counted at one place
 abbrev pub AreApart : List SessionCount → Type 0

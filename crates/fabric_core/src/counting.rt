@@ -1,16 +1,13 @@
-//! Counting the frames of a device.
+//! Counting the frames of a device. Where a count is [`MOST_COUNT`], out of memory is answered before it grows.
 
 ghost use Rattle.std.specs.Prelude.{IsTrue, ◌<◌, ◌↔◌, ◌≡◌, ◌≤◌};
-ghost use Rattle.fabric_core.specs.Numbers.{HasRoomToDeliver, HasRoomToSend, most_count};
+ghost use Rattle.step_kinds.specs.Limits.{most_count};
+ghost use Rattle.fabric_core.specs.Numbers.{HasRoomToDeliver, HasRoomToSend};
 ghost use Rattle.pair_model.specs.Device.{count_accepted, count_delivered, count_refused, no_counts as nothing_counted};
 
+use net_dev::HEADER_BYTES;
 use step_kinds::Counters;
-
-/// Where a count is this large, out of memory is answered before it grows.
-const MOST_COUNT: u64 = 1 << 62;
-
-/// The bytes of an Ethernet header: a shorter frame is counted apart.
-pub const HEADER_BYTES: u32 = 14;
+use step_kinds::limits::MOST_COUNT;
 
 /// No frame was counted.
 pub fn no_counts() -> Counters

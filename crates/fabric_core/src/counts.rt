@@ -7,9 +7,7 @@ ghost use Rattle.fabric_rule.specs.Parts.{count_in, one_more};
 
 use std::alloc::{AllocError, Global};
 use std::marker::Model;
-
-/// How many frames are counted before out of memory is answered.
-const MOST_FRAMES: u64 = 1 << 62;
+use step_kinds::limits::MOST_COUNT;
 
 /// How many frames there were in one session.
 #[derive(Clone, Copy)]
@@ -50,7 +48,7 @@ impl SessionCounts {
         ensures ok { OnOk result (self.new ≡ record self.old { has_room = true }) }
         ensures err { OnErr result (self.new ≡ self.old) }
     {
-        if self.made >= MOST_FRAMES {
+        if self.made >= MOST_COUNT {
             return Err(AllocError);
         }
         self.counts.reserve(1)?;

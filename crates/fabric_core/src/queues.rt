@@ -1,7 +1,7 @@
 //! One queue of one side, with what is counted of it.
 
 ghost use Rattle.std.specs.Prelude.{IfOk, IsErr, IsSome, IsTrue, OnErr, OnOk, length, true, ◌<◌, ◌↔◌, ◌≡◌, ◌≤◌};
-ghost use Rattle.fabric_core.specs.Numbers.{HasRoomToSend, most_count};
+ghost use Rattle.fabric_core.specs.Numbers.{HasRoomToSend};
 ghost use Rattle.fabric_core.specs.Fabric.{queue_wants_memory};
 ghost use Rattle.fabric_core.specs.Parts.{CanTurnQueue, KeepsPort, fresh_part};
 ghost use Rattle.fabric_core.specs.QueueCalls.{CanBegin, CanPost, HasTurned, HasTurnedUnlessWanting, IsBegun, IsBegunOrUncounted, IsFound, counted_begun, refused_once};
@@ -15,19 +15,17 @@ ghost use Rattle.pair_model.specs.DeclaredPlans.{IsPair, IsPayload};
 ghost use Rattle.pair_model.specs.Plans.{side_plan as side_plan_of};
 ghost use Rattle.queue_pair.specs.Gates.{is_joined, look_answer as queue_look_answer};
 ghost use Rattle.queue_pair.specs.declared.LookAnswer.TheVariants.{Ready as QueueReady};
-ghost use Rattle.step_kinds.specs.Limits.{most_frame_bytes};
+ghost use Rattle.step_kinds.specs.Limits.{most_count, most_frame_bytes};
 ghost use Rattle.fabric_rule.specs.Turns.{ack_turn, begin_turn, clear_turn, copy_turn, frame_answer, frame_turn, look_turn, post_turn, qpdown_turn, queue_turn, wake_turn};
 ghost use Rattle.fabric_rule.specs.Moves.{forgotten_queue};
 
 use crate::answers::{
     ack_answer, begin_answer, clear_answer, copy_answer, look_answer, post_answer, xbegin_answer,
 };
-use crate::counting::{
-    HEADER_BYTES, accepted, can_deliver, can_refuse, can_send, delivered, no_counts, refused,
-};
+use crate::counting::{accepted, can_deliver, can_refuse, can_send, delivered, no_counts, refused};
 use crate::counts::SessionCounts;
 use bridge_pair::Pair;
-use net_dev::{Flow, Header, encode};
+use net_dev::{Flow, HEADER_BYTES, Header, encode};
 use queue_pair::{BeginAnswer, LookAnswer, QueuePair};
 use std::alloc::{AllocError, Global};
 use std::marker::Model;

@@ -6,7 +6,26 @@
 //! objects of a program.
 #![tactic(auto)]
 
+ghost use Rattle.std.specs.Prelude.{◌≡◌, ◌+◌};
+ghost use Rattle.lane_model.specs.Lane.{GoesDown, chunk_size, done, flags_of};
+
 pub mod examples;
+
+/// The bytes of a chunk: a payload is cut from its start, and the last chunk may be shorter.
+pub const CHUNK_SIZE: u32 = 128;
+
+/// The bit of a header's flags that says that the entry stands whole.
+pub const DONE: u32 = 1;
+
+/// The bit of a header's flags that says that the sender's end of the queue goes down.
+pub const LINK_DOWN: u32 = 2;
+
+/// The constants of this crate are the numbers of its definitions. It does nothing: its clauses are the law.
+pub fn constants_are_numbers()
+    ensures chunk { CHUNK_SIZE ≡ chunk_size }
+    ensures whole { DONE ≡ done }
+    ensures down { DONE + LINK_DOWN ≡ flags_of GoesDown }
+{}
 
 /// Where a receiver stands with the frame in the next slot of its ring. The order of the phases is that of
 /// `ntb_transport`'s receiver: it copies, clears the flags and writes the index back. That a script can put steps

@@ -3,7 +3,8 @@ use Rattle.std.specs.Prelude.{◌≡◌, ℕ, ◌<◌, ◌≤◌, Bool, true, fa
 use Rattle.std.specs.List.{AllByRecursion}
 use Rattle.pair_model.specs.Fdb.{AreBelow}
 use Rattle.pair_model.specs.declared.Station.{Station}
-use Rattle.pair_model.specs.Switch.{Switch, after_relay, header_bytes, relay_answer}
+use Rattle.pair_model.specs.Ethernet.{ethernet_header}
+use Rattle.pair_model.specs.Switch.{Switch, after_relay, relay_answer}
 use Rattle.pair_model.specs.declared.RelayAnswer.{RelayAnswer}
 use Rattle.pair_model.specs.declared.RelayAnswer.TheVariants.{Flood, To}
 
@@ -29,7 +30,7 @@ goes_on answer = false
 
 -- a frame that has an Ethernet header
 abbrev pub HasHeader : List ℕ → Type 0
-HasHeader bytes = header_bytes ≤ length bytes
+HasHeader bytes = ethernet_header ≤ length bytes
 
 -- all frames of all lists have one
 abbrev pub AllHaveHeaders : List (List (List ℕ)) → Type 0

@@ -1,7 +1,8 @@
 //! A switch.
 
 ghost use Rattle.std.specs.Prelude.{◌≡◌, ◌↔◌, ◌<◌, ◌≤◌, [], length, IfErr, IfOk, IfSome, IsTrue, OnErr, OnOk, option_copied, true};
-ghost use Rattle.pair_model.specs.Switch.{arrived, first, forward_answer, forwarded, header_bytes, list_of, new_switch, sent};
+ghost use Rattle.pair_model.specs.Ethernet.{ethernet_header};
+ghost use Rattle.pair_model.specs.Switch.{arrived, first, forward_answer, forwarded, list_of, new_switch, sent};
 ghost use Rattle.pair_model.specs.Fdb.{AreBelow, destination, learned_source, lookup, source};
 ghost use Rattle.learn_switch.specs.Frames.{GoesBelow, HasHeader, AllHaveHeaders, bytes_after_relay, bytes_relay_answer, goes_on};
 
@@ -180,8 +181,8 @@ fn are_same_queues(queues: &[FrameQueue], others: &[FrameQueue]) -> bool
 
 // The addresses of a frame, where it has an Ethernet header.
 fn header_of(frame: &Frame) -> Result<Header, Short>
-    ensures short { IfErr result (λ short. (length frame.now < header_bytes) × (short.len ≡ length frame.now)) }
-    ensures header { IfOk result (λ header. (header_bytes ≤ length frame.now) × (header.dst ≡ destination frame.now) × (header.src ≡ source frame.now)) }
+    ensures short { IfErr result (λ short. (length frame.now < ethernet_header) × (short.len ≡ length frame.now)) }
+    ensures header { IfOk result (λ header. (ethernet_header ≤ length frame.now) × (header.dst ≡ destination frame.now) × (header.src ≡ source frame.now)) }
 {
     let header = decode(frame.bytes())?;
     Ok(header)

@@ -11,7 +11,8 @@ use Rattle.step_kinds.specs.declared.steps.Step.{Step}
 use Rattle.step_kinds.specs.declared.steps.Step.TheVariants.{Copy}
 use Rattle.ledger_model.specs.Log.{Memories}
 use Rattle.pair_model.specs.Fdb.{source, destination, learned_source}
-use Rattle.pair_model.specs.Switch.{Switch, after, after_relay, arrived, flooded, forward_answer, forwarded, header_bytes, list_of, new_switch, sent}
+use Rattle.pair_model.specs.Ethernet.{ethernet_header}
+use Rattle.pair_model.specs.Switch.{Switch, after, after_relay, arrived, flooded, forward_answer, forwarded, list_of, new_switch, sent}
 use Rattle.pair_model.specs.declared.RelayAnswer.{RelayAnswer}
 use Rattle.pair_model.specs.declared.RelayAnswer.TheVariants.{Nothing, Short, Filtered, To, Flood}
 use Rattle.ledger_model.specs.Network.{Action, Relays, Rests, Sends, OnBridge, Network, action_of, arrived_at, begin_on, made_after, network_after, network_from, new_network, next_network, session_after, switches_reached, switches_sent}
@@ -37,7 +38,7 @@ module _ {A : Type 0} (P : A → Type 0) where
   all-drop_one (x ∷ xs) h = h.1
 
 abbrev IsLong : List ℕ → Type 0
-IsLong frame = header_bytes ≤ length frame
+IsLong frame = ethernet_header ≤ length frame
 
 abbrev AreLong : List (List ℕ) → Type 0
 AreLong = AllByRecursion IsLong
@@ -73,15 +74,15 @@ long_forwarded lists port frame (Flood count) k h = long_flooded lists port fram
 -- a frame that is too short is dropped
 long_relayed : (switch : Switch (List ℕ)) (port : ℕ) (o : Option (List ℕ)) → LongSwitch switch → LongSwitch (after (λ bytes. bytes) switch port o)
 long_relayed switch port None h = h
-long_relayed switch port (Some frame) h = by (nat_lt (length frame) header_bytes) refl
+long_relayed switch port (Some frame) h = by (nat_lt (length frame) ethernet_header) refl
   where
-    by : (b : Bool) → nat_lt (length frame) header_bytes ≡ b
+    by : (b : Bool) → nat_lt (length frame) ethernet_header ≡ b
         → LongLists (forwarded switch.waiting port frame
         (if b then Short (length frame) else forward_answer (length switch.waiting) (learned_source switch.fdb port (source frame)) port (destination frame)))
     by true e = h
     by false e =
         long_forwarded switch.waiting port frame (forward_answer (length switch.waiting) (learned_source switch.fdb port (source frame)) port (destination frame))
-        (ltb-false (length frame) header_bytes e) h
+        (ltb-false (length frame) ethernet_header e) h
 
 no_lists : (n : ℕ) → LongLists (replicate n [])
 no_lists zero = tt

@@ -9,7 +9,8 @@ use Rattle.ledger_laws.specs.Laws.{IsInOrder, IsOrdinaryPair, KeepsPairsApart, e
 use Rattle.step_kinds.specs.Subject.{subject_of}
 use Rattle.ledger_model.specs.Next.{Ledger}
 use Rattle.ledger_model.specs.Log.{Answered, Memories, accepted, counters_in, delivered, ledger_of, log_of, posted_in, room_in, trains, up_at}
-use Rattle.pair_model.specs.Switch.{Switch, header_bytes, list_of}
+use Rattle.pair_model.specs.Ethernet.{ethernet_header}
+use Rattle.pair_model.specs.Switch.{Switch, list_of}
 use Rattle.ledger_model.specs.NetworkLog.{bridge_steps, network_of, on_bridges, switch_log, traced_network}
 use Rattle.ledger_model.specs.Network.{Network, items_from, new_network, next_item, next_network}
 use Rattle.ledger_model.specs.Origins.{bytes_kept, origins_kept}
@@ -102,7 +103,7 @@ OriginsChangeNothing = (plan : Plan) (memories : Memories) (steps : List Step) �
 
 -- each frame that waits in one of these switches has an Ethernet header at least
 abbrev pub HaveHeaders : List (Switch (List ℕ)) → Type 0
-HaveHeaders switches = AllByRecursion (λ switch. AllByRecursion (AllByRecursion (λ frame. header_bytes ≤ length frame)) switch.waiting) switches
+HaveHeaders switches = AllByRecursion (λ switch. AllByRecursion (AllByRecursion (λ frame. ethernet_header ≤ length frame)) switch.waiting) switches
 
 -- it stays so by every step
 abbrev pub HeadersStay : Type 0
@@ -112,4 +113,4 @@ HeadersStay = (plan : Plan) (memories : Memories) (net : Network (List ℕ)) (st
 -- each frame that waits at a port has an Ethernet header at least
 abbrev pub WaitingHaveHeaders : Type 0
 WaitingHaveHeaders = (plan : Plan) (memories : Memories) (steps : List Step) (port : Port) →
-    AllByRecursion (λ frame. header_bytes ≤ length frame) (list_of (switch_of (network_of plan memories steps).switches port).waiting port.place)
+    AllByRecursion (λ frame. ethernet_header ≤ length frame) (list_of (switch_of (network_of plan memories steps).switches port).waiting port.place)

@@ -1,5 +1,5 @@
 //! The model of a cluster of pairs: the ledger that a script's steps change, the answer to each step, and the log of a
-//! run. With switches, the log is one fold over the plan's steps, whose state is the steps made on bridges so far, the
+//! run. With switches, the log is one fold over the plan's steps. Its state is the steps made on bridges so far, the
 //! switches and the passages of frames from lane to lane. What the memories of a pair show is the last byte that landed
 //! writes, checks and clears stored in each place.
 //!

@@ -1,6 +1,7 @@
 -- What a `Link` keeps, as the link of a pair.
 use Rattle.std.specs.Prelude.{◌≤◌}
-use Rattle.pair_model.specs.Link.{Link as PairLink, last_session}
+use Rattle.step_kinds.specs.Limits.{most_sessions}
+use Rattle.pair_model.specs.Link.{Link as PairLink}
 use Rattle.link_state.specs.Flags.{both_flags}
 use Rattle.link_state.specs.declared.Link.TheInside.{Inside}
 
@@ -15,7 +16,7 @@ link_of link = record {
 
 -- no session is numbered past the last
 abbrev pub IsNumbered : Inside → Type 0
-IsNumbered link = link.session ≤ last_session
+IsNumbered link = link.session ≤ most_sessions
 
 -- what is kept, from the link of a pair
 abbrev pub inside_of : PairLink → Inside

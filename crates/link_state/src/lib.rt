@@ -8,6 +8,7 @@
 
 ghost use Rattle.std.specs.Prelude.{IfErr, IfOk, OnOk, ◌≡◌, ◌≢◌, ◌≤◌};
 ghost use Rattle.std.specs.Result.{result_err};
+ghost use Rattle.step_kinds.specs.Limits.{most_sessions};
 ghost use Rattle.pair_model.specs.Both.{at_side, with_side};
 ghost use Rattle.pair_model.specs.Link.{
   clean_refusal,
@@ -19,7 +20,6 @@ ghost use Rattle.pair_model.specs.Link.{
   enable_refusal,
   enabled_link,
   fresh_link,
-  last_session,
   link_after,
   train_refusal,
   trained_link,
@@ -28,13 +28,11 @@ ghost use Rattle.pair_model.specs.Link.{
 pub use pair_model::{LinkRefusal, LinkState};
 use std::marker::Model;
 use step_kinds::Side;
+use step_kinds::limits::MOST_SESSIONS;
 
 mod flags;
 
 use flags::Flags;
-
-/// The last session that a pair can have.
-const LAST_SESSION: u32 = 65535;
 
 /// The link of one pair. Contracts see its state, the number of its session, and for each side whether it has enabled
 /// the link and whether it is clean.
@@ -70,7 +68,7 @@ impl Link {
     /// The number of the session, from 1 to 65,535, and 0 before the first. It stays when the link is lost.
     pub fn session(&self) -> u32
         ensures value { result ≡ self.now.session }
-        ensures numbered { result ≤ last_session }
+        ensures numbered { result ≤ most_sessions }
     {
         self.session
     }
@@ -116,7 +114,7 @@ impl Link {
         if !(self.enabled.at(Side::A) && self.enabled.at(Side::B)) {
             return Err(LinkRefusal::NotEnabled);
         }
-        if self.session == LAST_SESSION {
+        if self.session == MOST_SESSIONS {
             return Err(LinkRefusal::SessionsSpent);
         }
         self.state = LinkState::Up;

@@ -1,7 +1,7 @@
 //! Ethernet frames (IEEE 802.3, without tags and checksum). A frame is the address of six bytes that it goes to, that
 //! of the device that it comes from, the kind of the payload, and the payload.
 
-ghost use Rattle.std.specs.Prelude.{IfErr, IfOk, IsErr, drop, length, ◌<◌, ◌↔◌, ◌≡◌, ◌≤◌};
+ghost use Rattle.std.specs.Prelude.{IfErr, IfOk, IsErr, drop, length, ◌+◌, ◌<◌, ◌↔◌, ◌≡◌, ◌≤◌};
 ghost use Rattle.step_kinds.specs.Limits.{most_frame_bytes};
 ghost use Rattle.pair_model.specs.Ethernet.{ethernet_frame, ethernet_header};
 
@@ -9,8 +9,8 @@ use std::alloc::{AllocError, Global};
 use step_kinds::Frame;
 use thiserror::Error;
 
-/// The bytes of the two addresses and the kind.
-const HEADER_BYTES: usize = 14;
+/// The bytes of the two addresses and the kind in front of a payload. A shorter frame has no Ethernet header.
+pub const HEADER_BYTES: u32 = 14;
 
 /// What stands in front of the payload of an Ethernet frame.
 #[derive(Clone, Copy, Debug, PartialEq, Eq)]
@@ -45,10 +45,10 @@ pub fn encode(
     kind: u16,
     payload: &[u8],
 ) -> Result<Frame, AllocError>
-    requires { length payload.now ≤ 65522 }
+    requires { length payload.now + ethernet_header ≤ most_frame_bytes }
     ensures { IfOk result (λ frame. frame ≡ ethernet_frame dst src kind payload.now) }
 {
-    let mut bytes = Vec::with_capacity(alloc, HEADER_BYTES + payload.len())?;
+    let mut bytes = Vec::with_capacity(alloc, HEADER_BYTES as usize + payload.len())?;
     bytes.extend_from_slice(&dst)?;
     bytes.extend_from_slice(&src)?;
     bytes.extend_from_slice(&kind.to_be_bytes())?;
@@ -69,7 +69,7 @@ pub fn decode(bytes: &[u8]) -> Result<Header, Short>
     ensures parts { IfOk result (λ header.
         bytes.now ≡ ethernet_frame header.dst header.src header.kind (drop ethernet_header bytes.now)) }
 {
-    if bytes.len() < HEADER_BYTES {
+    if bytes.len() < HEADER_BYTES as usize {
         return Err(Short {
             len: bytes.len() as u32,
         });

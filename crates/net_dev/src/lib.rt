@@ -7,6 +7,6 @@ mod ethernet;
 mod flow;
 pub mod laws;
 
-pub use ethernet::{Header, Short, decode, encode};
+pub use ethernet::{HEADER_BYTES, Header, Short, decode, encode};
 pub use flow::Flow;
 pub use step_kinds::Counters;

@@ -1,6 +1,7 @@
 -- The link of a pair and its sessions. Linux `include/linux/ntb.h` has the calls that enable and disable a link and the
 -- event that tells of its loss. Sessions, and the clean bit of a side, are this project's own.
 use Rattle.std.specs.Prelude.{ℕ, ◌+◌, ◌==◌, Bool, true, false, not, ◌&&◌, Option, Some, None}
+use Rattle.step_kinds.specs.Limits.{most_sessions}
 use Rattle.step_kinds.specs.declared.names.Side.{Side}
 use Rattle.pair_model.specs.Both.{Both, at_side, with_side, both_of}
 use Rattle.pair_model.specs.declared.LinkState.{LinkState}
@@ -16,10 +17,6 @@ pub record Link : Type 0 where
   pub enabled : Both Bool
   -- whether a side has forgotten the session that was lost
   pub clean : Both Bool
-
--- the last session that a pair can have
-abbrev pub last_session : ℕ
-last_session = 65535
 
 abbrev pub is_down : LinkState → Bool
 is_down Down = true
@@ -57,7 +54,7 @@ enabled_link link side = record { state = link.state; session = link.session; en
 abbrev pub train_refusal : Link → Option LinkRefusal
 train_refusal link =
     refused_where (not (is_down link.state)) NotDown
-    (refused_where (not (link.enabled.a && link.enabled.b)) NotEnabled (refused_where (link.session == last_session) SessionsSpent None))
+    (refused_where (not (link.enabled.a && link.enabled.b)) NotEnabled (refused_where (link.session == most_sessions) SessionsSpent None))
 
 abbrev pub trained_link : Link → Link
 trained_link link = record { state = Up; session = link.session + 1; enabled = link.enabled; clean = link.clean }

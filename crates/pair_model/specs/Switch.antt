@@ -2,13 +2,10 @@
 -- function that gives their bytes.
 use Rattle.std.specs.Prelude.{ℕ, zero, suc, ◌-◌, ◌==◌, nat_lt, if◌then◌else◌, List, [], ◌∷◌, ◌++◌, Option, Some, None, length, map, drop, replicate, slice_get, slice_index_or, slice_set}
 use Rattle.pair_model.specs.Fdb.{destination, is_multicast, learned_source, lookup, source}
+use Rattle.pair_model.specs.Ethernet.{ethernet_header}
 use Rattle.pair_model.specs.declared.Station.{Station}
 use Rattle.pair_model.specs.declared.RelayAnswer.{RelayAnswer}
 use Rattle.pair_model.specs.declared.RelayAnswer.TheVariants.{Nothing, Short, Filtered, To, Flood}
-
--- the bytes that an Ethernet frame has at least
-abbrev pub header_bytes : ℕ
-header_bytes = 14
 
 -- of each port the frames that arrived, its inbox, and those that wait to be sent; and the stations that are known
 pub record Switch (F : Type 0) : Type 0 where
@@ -69,10 +66,10 @@ forwarded waiting port frame (Flood count) = flooded waiting port frame
 -- a short frame is dropped; of any other the source is learned, and then its destination is looked up
 abbrev pub frame_answer : ℕ → List Station → ℕ → List ℕ → RelayAnswer
 frame_answer ports fdb port bytes =
-    if nat_lt (length bytes) header_bytes then Short (length bytes) else forward_answer ports (learned_source fdb port (source bytes)) port (destination bytes)
+    if nat_lt (length bytes) ethernet_header then Short (length bytes) else forward_answer ports (learned_source fdb port (source bytes)) port (destination bytes)
 
 abbrev pub fdb_after : List Station → ℕ → List ℕ → List Station
-fdb_after fdb port bytes = if nat_lt (length bytes) header_bytes then fdb else learned_source fdb port (source bytes)
+fdb_after fdb port bytes = if nat_lt (length bytes) ethernet_header then fdb else learned_source fdb port (source bytes)
 
 module _ {F : Type 0} (bytes_of : F → List ℕ) where
   abbrev pub answer_of : Switch F → ℕ → Option F → RelayAnswer

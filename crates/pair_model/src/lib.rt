@@ -1,9 +1,9 @@
 //! What the two sides of a pair may know, as definitions over lists and numbers.
 //!
 //! They say what a script can declare, and of a pair without its history its rings' sizes by version, orders, labels,
-//! pieces, link, scratchpads, devices and macros. They say where rings stand in the memories of a pair, what their bytes
-//! say and what was stored there. And they say what a learning switch does, with the laws of its database. They know no
-//! ledger and no log.
+//! pieces, link, scratchpads, devices and macros. They say where rings stand in the memories of a pair, what their
+//! bytes say and what was stored there. And they say what a learning switch does, with the laws of its database. They
+//! know no ledger and no log.
 #![tactic(auto)]
 
 pub mod examples;

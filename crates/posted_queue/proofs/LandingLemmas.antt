@@ -8,9 +8,8 @@ use Rattle.std.proofs.lemmas.Option.{none-some, slice_get-map, slice_get_past}
 use Rattle.order_rules.specs.Order.{Order, relaxed, passes, lands_behind, may_land}
 use Rattle.posted_queue.specs.Rows.{is_held_back}
 use Rattle.posted_queue.specs.Waiting.{class_awaited}
-use Rattle.posted_queue.specs.Flight.{Flight}
 use Rattle.posted_queue.specs.Landing.{answer_for, land_answer, after_landing}
-use Rattle.posted_queue.specs.declared.LandAnswer.TheVariants.{Landed, Blocked, Nothing}
+use Rattle.posted_queue.specs.declared.LandAnswer.TheVariants.{Landed, Blocked}
 
 -- the write at a place may land where it passes each write before it
 pub may_land-map : {W : Type 0} (order : W → Order) (writes : List W) (place : ℕ) (write : W) → slice_get writes place ≡ Some write → may_land (map order writes) place ≡ list_all (λ earlier. passes (order write) (order earlier)) (take place writes)

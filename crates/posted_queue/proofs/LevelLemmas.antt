@@ -1,7 +1,7 @@
 -- How the parts of a level stand after a write was found, pushed or taken out.
 use Rattle.std.proofs.Common.{◌≡◌, ℕ, ◌<◌, ◌≤◌, ◌+◌, ◌-◌, zero, suc, false, ◌||◌, List, [], ◌∷◌, ◌++◌, length, get_or, set, take, drop, Option, Some, slice_get, refl, sym, ap, subst, ◌∙◌, arith, append-nil, length-append, length-set, drop-cons}
 use Rattle.std.specs.List.{remove}
-use Rattle.std.proofs.lemmas.List.{get_or_default, drop-set-lt, drop-append-le, nil_from_length, length_push, drop_all, take-append-le}
+use Rattle.std.proofs.lemmas.List.{get_or_default, drop-append-le, nil_from_length, length_push, drop_all, take-append-le}
 use Rattle.std.proofs.lemmas.List.Edits.{length-remove, remove-append_left, remove-append_right}
 use Rattle.order_rules.specs.Order.{Order}
 use Rattle.posted_queue.specs.declared.row.Spot.{Spot}

@@ -55,6 +55,10 @@ impl<W: Ordered> Part<W> for Block<W> {
         self.writes.get(place)
     }
 
+    fn is_blocked(&self, place: usize, waits_for: Option<usize>) -> bool {
+        has_class_before(&self.writes, place, waits_for)
+    }
+
     #[inline]
     fn push(&mut self, write: W) {
         self.writes.push_back_reserved(write);

@@ -57,6 +57,17 @@ impl<W: Ordered> BlockQueue<W> {
         self.blocks.get(place)
     }
 
+    /// Whether the write at this place in flight may land: it is there, and may pass each write before it.
+    pub fn may_land(&self, place: usize) -> bool
+        ensures { result ≡ may_land (map W.order self.now.writes) place }
+    {
+        if place >= self.blocks.len() {
+            return false;
+        }
+        let waits_for = class_awaited_at(&self.blocks, place);
+        !self.blocks.is_blocked(place, waits_for)
+    }
+
     /// Promises room for `more` writes, on top of those that are promised already.
     ///
     /// An `Err` comes only when out of memory, never to a promise of 0 writes, and leaves the queue as it was. It comes

@@ -66,6 +66,22 @@ impl<W: Ordered> Blocks<W> {
         self.rest.get(place - front)
     }
 
+    /// Whether a write before this place has the class that is waited for.
+    pub fn is_blocked(&self, place: usize, waits_for: Option<usize>) -> bool
+        requires there { place < length self.now.writes }
+        requires class { ForSome waits_for (λ class. class < 8) }
+        ensures { result ≡ is_held_back W.order waits_for (take place self.now.writes) }
+    {
+        let front = self.front.len();
+        if place < front {
+            return self.front.is_blocked(place, waits_for);
+        }
+        if self.front.holds_back(waits_for) {
+            return true;
+        }
+        self.rest.is_blocked(place - front, waits_for)
+    }
+
     /// Puts a write after all others, into the room that there is.
     #[inline]
     pub fn push(&mut self, write: W)

@@ -78,6 +78,13 @@ impl<W: Ordered, P: Part<W>> Part<W> for Level<W, P> {
         self.row[spot.part].get(spot.place)
     }
 
+    fn is_blocked(&self, place: usize, waits_for: Option<usize>) -> bool {
+        match find_spot(&self.row, place, waits_for) {
+            Some(spot) => self.row[spot.part].is_blocked(spot.place, waits_for),
+            None => true,
+        }
+    }
+
     #[inline]
     fn push(&mut self, write: W) {
         self.last = first_with_room(&self.row, self.last);

@@ -7,7 +7,7 @@
 //! Room for a write is promised before it is posted, so that posting, landing and discarding take no memory.
 #![tactic(auto)]
 
-ghost use Rattle.std.specs.Prelude.{◌≡◌, ◌<◌, ◌≤◌, ◌↔◌, ◌==◌, length, IsSome, IsOk, OnOk, OnErr, option_copied, slice_get};
+ghost use Rattle.std.specs.Prelude.{◌≡◌, ◌<◌, ◌≤◌, ◌↔◌, ◌==◌, length, map, IsSome, IsOk, OnOk, OnErr, option_copied, slice_get};
 ghost use Rattle.order_rules.specs.Order.{Order};
 
 use crate::block_queue::BlockQueue;
@@ -62,6 +62,7 @@ pub struct Queue<W: Ordered> {
 }
 
 impl<W: Ordered> Queue<W> {
+    ghost use Rattle.order_rules.specs.Order.{may_land};
     ghost use Rattle.posted_queue.specs.Flight.{nothing_in_flight, promised, given_back, posted, discarded};
     ghost use Rattle.posted_queue.specs.Landing.{land_answer, after_landing};
 
@@ -105,6 +106,14 @@ impl<W: Ordered> Queue<W> {
         ensures within { IsSome result ↔ (place < length self.now.writes) }
     {
         self.write_at(place)
+    }
+
+    /// Whether [`Queue::land`] would land the write at this place in flight: it is there, and may pass each write
+    /// before it (PCI Express Base 4.0, section 2.4).
+    pub fn may_land(&self, place: usize) -> bool
+        ensures { result ≡ may_land (map W.order self.now.writes) place }
+    {
+        self.tickets.may_land(place)
     }
 
     /// Promises room for `more` writes, on top of those that are promised already.

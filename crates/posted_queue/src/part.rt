@@ -28,6 +28,12 @@ pub trait Part<W: Ordered>: Sized {
     fn get(&self, place: usize) -> Option<&W>
         ensures { option_copied result ≡ slice_get (state self.now).writes place };
 
+    /// Whether a write before this place has the class that is waited for.
+    fn is_blocked(&self, place: usize, waits_for: Option<usize>) -> bool
+        requires there { place < length (state self.now).writes }
+        requires class { ForSome waits_for (λ class. class < 8) }
+        ensures { result ≡ is_held_back W.order waits_for (take place (state self.now).writes) };
+
     /// Puts a write after all others, into the room that there is.
     fn push(&mut self, write: W)
         requires room { 0 < (state self.old).spare }

@@ -69,6 +69,15 @@ impl<W: Ordered, P: Part<W>> Counted<W, P> {
         self.part.get(place)
     }
 
+    /// Whether a write before this place has the class that is waited for.
+    pub fn is_blocked(&self, place: usize, waits_for: Option<usize>) -> bool
+        requires there { place < length self.now.writes }
+        requires class { ForSome waits_for (λ class. class < 8) }
+        ensures { result ≡ is_held_back W.order waits_for (take place self.now.writes) }
+    {
+        self.part.is_blocked(place, waits_for)
+    }
+
     /// Puts a write after all others, into the room that there is.
     #[inline]
     pub fn push(&mut self, write: W)

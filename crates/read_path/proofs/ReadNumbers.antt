@@ -8,7 +8,8 @@ use Rattle.host_memory.specs.Memory.{bytes_at}
 use Rattle.step_kinds.specs.declared.names.Side.{Side}
 use Rattle.step_kinds.specs.declared.names.Side.TheVariants.{A, B}
 use Rattle.pair_model.specs.Both.{Both, at_side}
-use Rattle.pair_model.specs.Link.{last_session, refused_where}
+use Rattle.step_kinds.specs.Limits.{most_sessions}
+use Rattle.pair_model.specs.Link.{refused_where}
 use Rattle.pair_model.specs.declared.LinkState.{LinkState}
 use Rattle.pair_model.specs.declared.LinkState.TheVariants.{Down, Up, Closing}
 use Rattle.pair_model.specs.declared.LinkRefusal.{LinkRefusal}
@@ -322,7 +323,7 @@ relink_numbers : (log : List Entry) (link : LinkState) (session : ℕ) (sides : 
     → NumbersHold (log ++ entry_of (path_with link session sides) Relink ∷ []) (after_step (path_with link session sides) Relink)
 relink_numbers log Up session sides holds = nothing_counted log _ Up session (path_with Up session sides) (λ s. refl) (λ s n. refl) holds
 relink_numbers log Closing session sides holds = nothing_counted log _ Closing session (path_with Closing session sides) (λ s. refl) (λ s n. refl) holds
-relink_numbers log Down session sides holds = by_refusal (refused_where (session == last_session) SessionsSpent None) where
+relink_numbers log Down session sides holds = by_refusal (refused_where (session == most_sessions) SessionsSpent None) where
   by_refusal : (refusal : Option LinkRefusal)
       → NumbersHold (log ++ record { step = Relink; answer = Linked refusal } ∷ []) (unless refusal (path_with Down session sides) (path_with Up (session + 1) sides))
   by_refusal None = nothing_counted log _ Up (session + 1) (path_with Down session sides) (λ s. refl) (λ s n. refl) holds

@@ -4,7 +4,8 @@ use Rattle.std.proofs.lemmas.List.Sums.{fold-append}
 use Rattle.step_kinds.specs.declared.names.Side.{Side}
 use Rattle.step_kinds.specs.declared.names.Side.TheVariants.{A, B}
 use Rattle.pair_model.specs.Both.{Both, at_side}
-use Rattle.pair_model.specs.Link.{is_up, last_session, refused_where}
+use Rattle.step_kinds.specs.Limits.{most_sessions}
+use Rattle.pair_model.specs.Link.{is_up, refused_where}
 use Rattle.pair_model.specs.declared.LinkState.{LinkState}
 use Rattle.pair_model.specs.declared.LinkState.TheVariants.{Down, Up, Closing}
 use Rattle.pair_model.specs.declared.LinkRefusal.{LinkRefusal}
@@ -109,7 +110,7 @@ RelinkHolds log path refusal =
 relink_holds : (log : List Entry) (link : LinkState) (session : ℕ) (sides : Both SideState) → Holds log (told_of log) (path_with link session sides) → StepHolds log (path_with link session sides) Relink
 relink_holds log Up session sides holds = nothing_changes log _ _ holds
 relink_holds log Closing session sides holds = nothing_changes log _ _ holds
-relink_holds log Down session sides holds = by_refusal (refused_where (session == last_session) SessionsSpent None) where
+relink_holds log Down session sides holds = by_refusal (refused_where (session == most_sessions) SessionsSpent None) where
   by_refusal : (refusal : Option LinkRefusal) → RelinkHolds log (path_with Down session sides) refusal
   by_refusal None = link_holds log _ (path_with Down session sides) Up (session + 1) true refl holds
   by_refusal (Some refusal) = nothing_changes log _ _ holds

@@ -5,7 +5,8 @@ use Rattle.host_memory.specs.Memory.{written, bytes_at}
 use Rattle.step_kinds.specs.Sides.{other_side}
 use Rattle.step_kinds.specs.declared.names.Side.{Side}
 use Rattle.pair_model.specs.Both.{Both, at_side, with_side, both_of}
-use Rattle.pair_model.specs.Link.{is_up, is_down, is_closing, last_session, refused_where}
+use Rattle.step_kinds.specs.Limits.{most_sessions}
+use Rattle.pair_model.specs.Link.{is_up, is_down, is_closing, refused_where}
 use Rattle.pair_model.specs.declared.LinkState.{LinkState}
 use Rattle.pair_model.specs.declared.LinkState.TheVariants.{Down, Up, Closing}
 use Rattle.pair_model.specs.declared.LinkRefusal.{LinkRefusal}
@@ -138,7 +139,7 @@ abbrev pub after_drop : PathState → PathState
 after_drop path = unless (drop_refusal path) path (record { link = Down; session = path.session; sides = emptied path.sides })
 
 abbrev pub relink_refusal : PathState → Option LinkRefusal
-relink_refusal path = refused_where (not (is_down path.link)) NotDown (refused_where (path.session == last_session) SessionsSpent None)
+relink_refusal path = refused_where (not (is_down path.link)) NotDown (refused_where (path.session == most_sessions) SessionsSpent None)
 
 abbrev pub after_relink : PathState → PathState
 after_relink path = unless (relink_refusal path) path (record { link = Up; session = path.session + 1; sides = path.sides })

@@ -1,5 +1,5 @@
 -- The limits of the surface.
-use Rattle.std.specs.Prelude.{◌≡◌, ℕ, ◌<◌, ◌≤◌, ◌%◌}
+use Rattle.std.specs.Prelude.{◌≡◌, ℕ, ◌<◌, ◌≤◌, ◌%◌, ◌^◌}
 
 -- hosts, pairs of hosts, network devices and switches of a script
 abbrev pub most_hosts : ℕ
@@ -89,6 +89,10 @@ most_traffic_entries = 65535
 -- how many traffic classes there are
 abbrev pub traffic_classes : ℕ
 traffic_classes = 8
+
+-- how far anything is counted that no other limit holds down: frames and entries of a ring, and bytes of a device
+abbrev pub most_count : ℕ
+most_count = 2 ^ 62
 
 -- a number of ports of a switch
 abbrev pub IsPorts : ℕ → Type 0

@@ -14,6 +14,7 @@ ghost use Rattle.step_kinds.specs.Limits.{
   least_ports,
   least_size,
   most_breaks,
+  most_count,
   most_devices,
   most_frame_bytes,
   most_hosts,
@@ -87,6 +88,8 @@ pub const MOST_BREAKS: u32 = 100;
 pub const MOST_TRAFFIC_ENTRIES: u32 = 65_535;
 /// How many traffic classes there are: a class is a number below this (PCI Express Base 4.0, section 2.4, has eight).
 pub const TRAFFIC_CLASSES: u32 = 8;
+/// How far anything is counted that no other limit holds down: frames and entries of a ring, and bytes of a device.
+pub const MOST_COUNT: u64 = 1 << 62;
 
 /// Whether a side may have so many queues: 1 to 16.
 pub fn is_queues(queues: u32) -> bool
@@ -150,4 +153,5 @@ pub fn constants_are_limits()
     ensures breaks { MOST_BREAKS ≡ most_breaks }
     ensures traffic_entries { MOST_TRAFFIC_ENTRIES ≡ most_traffic_entries }
     ensures classes { TRAFFIC_CLASSES ≡ traffic_classes }
+    ensures counts { MOST_COUNT ≡ most_count }
 {}

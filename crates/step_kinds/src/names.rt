@@ -1,7 +1,7 @@
 //! Sides of a pair, names of hosts, pairs, devices and switches, and names of lanes.
 
 ghost use Rattle.std.specs.Prelude.{◌≡◌, ◌≤◌, length};
-ghost use Rattle.step_kinds.specs.Sides.{other_side};
+ghost use Rattle.step_kinds.specs.Sides.{other_side, same_lane, same_side};
 
 use crate::in_place::InPlace;
 use std::marker::Model;
@@ -25,6 +25,16 @@ impl Side {
             Side::B => Side::A,
         }
     }
+
+    /// Whether this is that side.
+    pub fn is(self, other: Side) -> bool
+        ensures { result ≡ same_side self other }
+    {
+        match (self, other) {
+            (Side::A, Side::A) | (Side::B, Side::B) => true,
+            (Side::A, Side::B) | (Side::B, Side::A) => false,
+        }
+    }
 }
 
 /// A lane: the way of frames from one side of a pair to the other through one queue (a queue pair of
@@ -37,6 +47,15 @@ pub struct LaneName {
     pub from: Side,
     /// The number of the queue, from 0.
     pub queue: u32,
+}
+
+impl LaneName {
+    /// Whether this is that lane.
+    pub fn is(self, other: LaneName) -> bool
+        ensures { result ≡ same_lane self other }
+    {
+        self.pair == other.pair && self.from.is(other.from) && self.queue == other.queue
+    }
 }
 
 /// A name of 1 to 16 bytes, kept in place. Contracts see its list of bytes.

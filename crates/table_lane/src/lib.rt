@@ -1,8 +1,8 @@
 //! One lane between threads, without a lock: five ends on words and slots, and the rule of the table that they share.
 //!
 //! The rule says what the lane's words, its slots and the knowledge of its seats show at each moment, and each atomic
-//! step keeps it. The table shows one lane of the model, with the law of its ring. So what is proved of every lane holds
-//! of frames that threads hand to one another.
+//! step keeps it. The table shows one lane of the model, with the law of its ring. So what is proved of every lane
+//! holds of frames that threads hand to one another.
 #![tactic(auto)]
 
 mod back;

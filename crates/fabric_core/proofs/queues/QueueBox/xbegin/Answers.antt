@@ -1,10 +1,10 @@
 use Rattle.std.proofs.Common.{◌≡◌, ◌∙◌, ◌≤◌, Result, Ok, Err, IfOk, OnErr, OnOk, inl, inr, refl, subst, sym}
+use Rattle.step_kinds.specs.Limits.{most_count}
 use Rattle.step_kinds.specs.declared.steps.Answer.{Answer}
 use Rattle.bridge_pair.specs.Bridge.{Bridge}
 use Rattle.frame_ring.specs.PortView.{HasPagesIn}
 use Rattle.pair_model.specs.Ethernet.{ethernet_frame}
 use Rattle.fabric_rule.specs.Parts.{QueuePart}
-use Rattle.fabric_core.specs.Numbers.{most_count}
 use Rattle.fabric_core.specs.Parts.{KeepsPort}
 use Rattle.fabric_core.specs.QueueCalls.{HasTurnedUnlessWanting, IsBegunOrUncounted, refused_once}
 use Rattle.fabric_core.proofs.FrameTurns.{answered_by_length, begins_by, refused_by_answer, refused_frame}
