@@ -18,7 +18,7 @@ ghost use Rattle.posted_queue.specs.Landing.{after_landing, land_answer};
 use crate::flying_bytes::{Buffer, FEW, FlyingBytes};
 use crate::flying_write::{Arrival, FlyingWrite};
 use crate::same::{
-    have_same_bytes, have_same_bytes_after, have_same_writes, have_same_writes_without, may_land,
+    have_same_bytes, have_same_bytes_after, have_same_writes, have_same_writes_without,
 };
 use bridge_regs::{Bells, Pads};
 use host_memory::Memory;
@@ -101,7 +101,7 @@ impl Endpoint {
         let Some(write) = self.coming.label_at(place) else {
             return false;
         };
-        may_land(&self.coming, place, write)
+        self.coming.may_land(place)
             && have_same_writes_without(&self.coming, place, &other.coming)
             && self.arrives_as(&write.arrival, other)
     }

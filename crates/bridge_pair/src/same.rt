@@ -1,16 +1,13 @@
 //! Whether memories have the same bytes, and queues the same writes in flight: as they are, or once one write has
 //! landed.
 
-ghost use Rattle.std.specs.Prelude.{◌≡◌, ◌↔◌, ℕ, ◌+◌, ◌<◌, ◌≤◌, ◌^◌, IsTrue, length, map, remove, slice_get};
+ghost use Rattle.std.specs.Prelude.{◌≡◌, ◌↔◌, ℕ, ◌+◌, ◌<◌, ◌≤◌, ◌^◌, IsTrue, length, remove, slice_get};
 ghost use Rattle.step_kinds.specs.Limits.{most_write_bytes};
-ghost use Rattle.bridge_pair.specs.Flights.{flying_order};
 ghost use Rattle.host_memory.specs.Memory.{bytes_at, written};
-ghost use Rattle.order_rules.specs.Order.{may_land as may_land_at, passes as order_passes};
 
 use crate::flying_write::FlyingWrite;
 use host_memory::Memory;
-use order_rules::posted_table;
-use posted_queue::{Ordered, Queue};
+use posted_queue::Queue;
 use step_kinds::limits::MOST_WRITE_BYTES;
 
 /// Whether two queues have the same writes in flight, in one order.
@@ -64,29 +61,6 @@ fn is_same_at(one: &Queue<FlyingWrite>, from: usize, other: &Queue<FlyingWrite>,
         (None, None) => true,
         (Some(_), None) | (None, Some(_)) => false,
     }
-}
-
-/// Whether this write, which is the one at a place in flight, may land: it passes each write before it (PCI Express
-/// Base 4.0, section 2.4).
-pub fn may_land(queue: &Queue<FlyingWrite>, place: usize, write: &FlyingWrite) -> bool
-    requires { slice_get queue.now.writes place ≡ Some write.now }
-    ensures { result ≡ may_land_at (map flying_order queue.now.writes) place }
-{
-    for earlier in 0..place {
-        if let Some(before) = queue.label_at(earlier)
-            && !passes(write, before)
-        {
-            return false;
-        }
-    }
-    true
-}
-
-// Whether a later write may pass an earlier one.
-fn passes(later: &FlyingWrite, earlier: &FlyingWrite) -> bool
-    ensures { result ≡ order_passes later.now.order earlier.now.order }
-{
-    posted_table().passes(later.kind(), later.class(), earlier.kind(), earlier.class())
 }
 
 /// Whether two memories have the same bytes.
