@@ -2,13 +2,12 @@
 
 ghost use Rattle.std.specs.Prelude.{◌≡◌, ◌<◌, ◌≤◌, IfSome, length, option_map};
 ghost use Rattle.std.specs.List.{All, position_from};
-ghost use Rattle.step_kinds.specs.Sides.{same_side};
 ghost use Rattle.step_kinds.specs.Limits.{most_ports, most_switches};
 ghost use Rattle.ledger_model.specs.Log.{is_on as is_on_lane};
 ghost use Rattle.ledger_model.specs.Ports.{port_from};
 ghost use Rattle.cluster_core.specs.Parts.{HasFewPorts, IsPortAmong, is_device_on, port_seen};
 
-use step_kinds::{DevPlan, LaneName, Side, SwitchPlan};
+use step_kinds::{DevPlan, LaneName, SwitchPlan};
 
 /// A port of a switch, by the numbers of both.
 #[derive(Clone, Copy, Debug, PartialEq, Eq)]
@@ -59,12 +58,5 @@ fn place_on(devs: &[DevPlan], ports: &[u32], own: LaneName) -> Option<u32>
 fn is_on(dev: &DevPlan, own: LaneName) -> bool
     ensures { result ≡ is_on_lane own dev.now.pair dev.now.side dev.now.queue }
 {
-    dev.pair == own.pair && is_same_side(dev.side, own.from) && dev.queue == own.queue
-}
-
-// Whether two sides are the same.
-fn is_same_side(side: Side, other: Side) -> bool
-    ensures { result ≡ same_side side other }
-{
-    matches!((side, other), (Side::A, Side::A) | (Side::B, Side::B))
+    dev.pair == own.pair && dev.side.is(own.from) && dev.queue == own.queue
 }

@@ -4,7 +4,7 @@ use Rattle.std.specs.List.{list_any}
 use Rattle.std.specs.Option.{option_or}
 use Rattle.std.specs.Str.{bytes_eq}
 use Rattle.step_kinds.specs.Limits.{most_queues, most_windows, least_size, most_size, size_step, least_mtu, most_mtu}
-use Rattle.step_kinds.specs.Sides.{other_side}
+use Rattle.step_kinds.specs.Sides.{other_side, same_side}
 use Rattle.step_kinds.specs.declared.names.Side.{Side}
 use Rattle.step_kinds.specs.declared.names.Side.TheVariants.{A, B}
 use Rattle.step_kinds.specs.declared.plan.SidePlan.{SidePlan}
@@ -30,8 +30,7 @@ same_key one other = bytes_eq (key_text one) (key_text other)
 
 abbrev pub same_scope : Option Side → Option Side → Bool
 same_scope None None = true
-same_scope (Some A) (Some A) = true
-same_scope (Some B) (Some B) = true
+same_scope (Some one) (Some other) = same_side one other
 same_scope one other = false
 
 -- whether two options are the same one, whatever their numbers are

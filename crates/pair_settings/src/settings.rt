@@ -160,9 +160,8 @@ pub fn is_same_scope(side: Option<Side>, other: Option<Side>) -> bool
 {
     match (side, other) {
         (None, None) => true,
-        (Some(Side::A), Some(Side::A)) => true,
-        (Some(Side::B), Some(Side::B)) => true,
-        _ => false,
+        (Some(side), Some(other)) => side.is(other),
+        (Some(_), None) | (None, Some(_)) => false,
     }
 }
 

@@ -6,7 +6,6 @@ ghost use Rattle.script_words.specs.Declarations.{sits_on};
 
 use crate::by_name::{Declared, Named};
 use script_words::QueueName;
-use script_words::words::is_same_side;
 use step_kinds::DevPlan;
 
 /// The devices that are declared so far, in order. A device is found by its name.
@@ -33,5 +32,5 @@ impl Named for DevPlan {
 fn sits_on(name: QueueName, dev: &DevPlan) -> bool
     ensures { result ≡ sits_on name.pair name.side name.queue dev.now }
 {
-    dev.pair == name.pair && is_same_side(dev.side, name.side) && dev.queue == name.queue
+    dev.pair == name.pair && dev.side.is(name.side) && dev.queue == name.queue
 }

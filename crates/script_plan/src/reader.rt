@@ -10,7 +10,6 @@ use crate::pairs::Pairs;
 use crate::script::Script;
 use crate::switches::Switches;
 use crate::traffic::TrafficList;
-use script_words::words::is_same_side;
 use script_words::{Given, PairHosts, Part, QueueName};
 use std::alloc::{AllocError, Global};
 use std::marker::Model;
@@ -305,5 +304,5 @@ impl Model for Reader {
 fn is_queue(name: QueueName, other: &QueueName) -> bool
     ensures { result ≡ is_queue name.pair name.side name.queue other.now }
 {
-    other.pair == name.pair && is_same_side(other.side, name.side) && other.queue == name.queue
+    other.pair == name.pair && other.side.is(name.side) && other.queue == name.queue
 }

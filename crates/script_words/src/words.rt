@@ -3,7 +3,6 @@
 
 ghost use Rattle.std.specs.Prelude.{◌≡◌, ◌||◌};
 ghost use Rattle.std.specs.List.{list_all};
-ghost use Rattle.step_kinds.specs.Sides.{same_side};
 ghost use Rattle.script_words.specs.Reads.{Reads, ReadsLine};
 ghost use Rattle.script_words.specs.Tests as tests;
 ghost use Rattle.script_words.specs.Words as spelled;
@@ -170,13 +169,6 @@ pub fn read_bytes_at(alloc: Global, n: u32, word: &[u8]) -> Result<Items<u8>, Li
         Err(ReadError::Fault(cause)) => Err(LineError::Fault(cause.at(n))),
         Err(ReadError::OutOfMemory) => Err(LineError::OutOfMemory),
     }
-}
-
-/// Whether two sides are the same.
-pub fn is_same_side(side: Side, other: Side) -> bool
-    ensures { result ≡ same_side side other }
-{
-    matches!((side, other), (Side::A, Side::A) | (Side::B, Side::B))
 }
 
 /// The bytes that a word spells, of which there have to be so many. It takes no memory.

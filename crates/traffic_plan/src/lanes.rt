@@ -1,30 +1,12 @@
 //! The traffic of a plan, by lanes and by pairs.
 
 ghost use Rattle.std.specs.Prelude.{◌≡◌, ◌∷◌, [], ◌<◌, ◌^◌, length, count_by, IfOk, OnOk};
-ghost use Rattle.step_kinds.specs.Sides.{same_lane, same_side};
 ghost use Rattle.pair_model.specs.TrafficPlans.{is_break_of};
 ghost use Rattle.step_kinds.specs.FrameLists.{no_frames};
 ghost use Rattle.traffic_plan.specs.Lanes.{frames_on, with_frames};
 
 use std::alloc::{AllocError, Global};
-use step_kinds::{FrameList, LaneName, Plan, Side, Traffic};
-
-/// Whether two sides are one.
-fn is_same_side(one: Side, other: Side) -> bool
-    ensures { result ≡ same_side one other }
-{
-    match (one, other) {
-        (Side::A, Side::A) | (Side::B, Side::B) => true,
-        _ => false,
-    }
-}
-
-/// Whether two lanes are one.
-fn is_same_lane(one: LaneName, other: LaneName) -> bool
-    ensures { result ≡ same_lane one other }
-{
-    one.pair == other.pair && is_same_side(one.from, other.from) && one.queue == other.queue
-}
+use step_kinds::{FrameList, LaneName, Plan, Traffic};
 
 /// Adds a copy of an item's frame to a list, where it is sent on the lane.
 fn push_on(
@@ -36,7 +18,7 @@ fn push_on(
     ensures { OnOk result (list.new ≡ with_frames list.old (frames_on lane (item.now ∷ []))) }
 {
     if let Traffic::Send { lane: other, frame } = item
-        && is_same_lane(*other, lane)
+        && other.is(lane)
     {
         let copy = frame.copy_of(alloc)?;
         list.promise(1)?;
