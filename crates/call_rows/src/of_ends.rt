@@ -174,7 +174,7 @@ fn comes_back(alloc: Global, end: &mut SendEnd) -> Result<bool, AllocError>
 }
 
 /// So many turns an end in a thread makes at most.
-const TURNS: u32 = 1_000_000;
+const END_TURNS: u32 = 1_000_000;
 
 /// The entry of the last frame that it moves or receives.
 const LAST: u64 = 2;
@@ -183,7 +183,7 @@ const LAST: u64 = 2;
 fn move_all(end: &mut MoveEnd)
     ensures { end.new.lane ≡ end.old.lane }
 {
-    for turn in 0..TURNS {
+    for turn in 0..END_TURNS {
         match end.step(u64::from(turn)) {
             MoveAnswer::Flag { number: LAST } => return,
             MoveAnswer::Idle => thread::yield_now(),
@@ -196,7 +196,7 @@ fn move_all(end: &mut MoveEnd)
 fn receive_all(end: &mut RecvEnd, got: &mut Vec<u8>) -> Result<(), AllocError>
     ensures { end.new.lane ≡ end.old.lane }
 {
-    for _ in 0..TURNS {
+    for _ in 0..END_TURNS {
         match end.recv() {
             RecvAnswer::Got { number, frame } => {
                 got.extend_from_slice(frame.bytes())?;

@@ -7,6 +7,7 @@ use Rattle.step_kinds.specs.declared.names.LaneName.{LaneName}
 use Rattle.step_kinds.specs.declared.plan.Plan.{Plan}
 use Rattle.step_kinds.specs.declared.plan.Traffic.{Traffic}
 use Rattle.step_kinds.specs.declared.plan.Traffic.TheVariants.{Send, Break}
+use Rattle.step_kinds.specs.Limits.{most_queues}
 use Rattle.traffic_plan.specs.Lanes.{frames_on}
 use Rattle.cluster_run.specs.Lanes.{lanes_in, entries_on, losses_on}
 use Rattle.cluster_run.specs.LaneKeys.{LaneKey}
@@ -31,10 +32,10 @@ by_lane traffic pairs = map (frames_of traffic) (lanes_in pairs)
 -- where a lane stands among all lanes
 abbrev pub side_place : Side → ℕ
 side_place A = 0
-side_place B = 16
+side_place B = most_queues
 
 abbrev pub place_of : LaneName → ℕ
-place_of lane = 32 * lane.pair + (side_place lane.from + lane.queue)
+place_of lane = 2 * most_queues * lane.pair + (side_place lane.from + lane.queue)
 
 -- one frame more on a lane
 abbrev pub with_frame : LaneFrames → List ℕ → LaneFrames

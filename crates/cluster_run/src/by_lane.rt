@@ -6,13 +6,11 @@ ghost use Rattle.cluster_run.specs.Lanes.{CanRun};
 ghost use Rattle.cluster_run.specs.ByLane.{HasPlace, by_lane, frames_of, lane_frames, lanes_with, place_of, with_frame};
 
 use std::alloc::{AllocError, Global};
+use step_kinds::limits::MOST_QUEUES;
 use step_kinds::{Frame, FrameList, LaneName, Plan, Side, Traffic};
 
-/// At most so many queues a side has.
-const QUEUES: u32 = 16;
-
-/// So many lanes a pair may have.
-const LANES: usize = 32;
+/// So many lanes a pair may have: one for each queue of each side.
+const LANES: usize = 2 * MOST_QUEUES as usize;
 
 /// A lane and frames that are to be sent on it.
 #[derive(Drop)]
@@ -41,7 +39,7 @@ fn place_of(lane: LaneName) -> usize
 {
     let side = match lane.from {
         Side::A => 0,
-        Side::B => 16,
+        Side::B => MOST_QUEUES as usize,
     };
     LANES * lane.pair as usize + (side + lane.queue as usize)
 }
@@ -55,7 +53,7 @@ fn push_side(
 ) -> Result<(), AllocError>
     ensures { OnOk result (map lane_frames lanes.new.items ≡ map lane_frames lanes.old.items ++ map (λ queue. frames_of [] (record { pair = pair; from = from; queue = queue })) (range_with_len 0 16)) }
 {
-    for queue in 0..QUEUES {
+    for queue in 0..MOST_QUEUES {
         lanes.push(LaneTraffic {
             name: LaneName { pair, from, queue },
             frames: FrameList::new(alloc),

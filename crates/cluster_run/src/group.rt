@@ -13,12 +13,10 @@ use std::alloc::{AllocError, Global};
 use std::collections::VecDeque;
 use std::sync::Wait;
 use std::thread::Threads;
+use step_kinds::limits::MOST_TRAFFIC_ENTRIES;
 
-/// The rings of the lanes that are open together have at most so many entries in all.
-const MOST_OPEN: u32 = 1_000_000;
-
-/// A ring has at most so many.
-const MOST_ENTRIES: u32 = 65_535;
+/// The rings that are open together have at most so many entries in all.
+pub(crate) const MOST_OPEN: u32 = 1_000_000;
 
 /// Opens the lane `first` and those of the lanes that wait which may be open together with it, in order. The only error
 /// is running out of memory.
@@ -32,7 +30,7 @@ pub(crate) fn next_group(
 {
     let mut entries = first.entries();
     let mut works = vec![in alloc; first.opened(alloc)?]?;
-    while entries <= MOST_OPEN - MOST_ENTRIES
+    while entries <= MOST_OPEN - MOST_TRAFFIC_ENTRIES
         && let Some(task) = waiting.pop_front()
     {
         entries += task.entries();

@@ -14,7 +14,7 @@ use std::thread::{Threads, join_mut};
 const PASSES: u32 = 16_777_216;
 
 /// So many turns has a pass of the mover or the receiver, at most.
-const TURNS: u32 = 4_096;
+pub(crate) const TURNS: u32 = 4_096;
 
 /// So many turns has a pass of the receiver, at most, where a cut waits for frames.
 const FEW_TURNS: usize = 64;

@@ -9,7 +9,7 @@ use crate::workers::{Cutting, Moving, Receiving, Sending};
 use io_edges::Gate;
 
 /// At most so often the workers make their passes in a round.
-const TIMES: u32 = 1_024;
+pub(crate) const TIMES: u32 = 1_024;
 
 // One pass of each worker that carries frames. The mover has three moves for each frame, and after the receiver one
 // turn more, in which the way back brings the sender its entries.

@@ -48,7 +48,7 @@ pub(crate) struct Progress {
 }
 
 /// So often the cutting worker looks how far the receiver is, and lets other threads run, before it cuts anyway.
-const CUT_LOOKS: u32 = 20_000;
+pub(crate) const CUT_LOOKS: u32 = 20_000;
 
 /// In a ring of fewer entries a worker looks at the ring itself, since what the others do in between is few entries.
 const SMALL_RING: u32 = 16;
@@ -69,7 +69,7 @@ const LOOKS: u32 = 1_024;
 const QUICK_LOOKS: u32 = 64;
 
 /// After so many idle passes in a row a sender leaves the round, in a large ring and in a small one.
-const IDLE_PASSES: u32 = 16;
+pub(crate) const IDLE_PASSES: u32 = 16;
 
 const SMALL_IDLE_PASSES: u32 = 4_096;
 

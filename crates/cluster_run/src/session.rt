@@ -46,7 +46,7 @@ pub(crate) struct SessionEnd {
 const SPARE_ROOM: usize = 1_024;
 
 /// At most so many turns a pass has where one thread makes those of all workers in turn.
-const MOST_TURNS: usize = 1_024;
+pub(crate) const MOST_TURNS: usize = 1_024;
 
 // The frames of a list with room for so many in all. Where they are fewer than half of these, they are moved into a
 // list of their own length.

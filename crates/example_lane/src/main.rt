@@ -21,7 +21,7 @@ const ENTRIES: u32 = 8;
 const FRAMES: [u8; 5] = *b"lanes";
 
 /// So many turns an end makes at most, so that each thread ends.
-const TURNS: u32 = 4_096;
+const TRIES: u32 = 4_096;
 
 fn main(rt: HostRuntime) -> Result<(), Fail> {
     let alloc = rt.alloc();
@@ -90,7 +90,7 @@ fn move_all(mover: &mut MoveEnd, back: &mut BackEnd)
     ensures mover { mover.new.lane ≡ mover.old.lane }
     ensures back { back.new.lane ≡ back.old.lane }
 {
-    for turn in 0..TURNS {
+    for turn in 0..TRIES {
         let moved = mover.step(u64::from(turn));
         let given_back = back.step();
         if moved == MoveAnswer::Idle && given_back == BackAnswer::Idle {
@@ -103,7 +103,7 @@ fn move_all(mover: &mut MoveEnd, back: &mut BackEnd)
 fn receive_all(end: &mut RecvEnd, got: &mut Vec<u8>) -> Result<(), AllocError>
     ensures { end.new.lane ≡ end.old.lane }
 {
-    for _ in 0..TURNS {
+    for _ in 0..TRIES {
         match end.recv() {
             RecvAnswer::Got { frame, .. } => got.extend_from_slice(frame.bytes())?,
             RecvAnswer::Empty => thread::yield_now(),

@@ -2,7 +2,7 @@
 use Rattle.std.specs.Prelude.{◌≡◌, ℕ, ◌+◌, ◌-◌, ◌^◌, ◌<◌, ◌≤◌, ◌==◌, Bool, true, false, Option, Some, None, List, [], ◌∷◌, ◌++◌, length, nat_lt, drop, slice_index_or, if◌then◌else◌}
 use Rattle.step_kinds.specs.declared.steps.Label.{Label}
 use Rattle.step_kinds.specs.declared.steps.Label.TheVariants.{Chunk, Len, Ver, Flag, Down, Bell}
-use Rattle.step_kinds.specs.Limits.{most_frame_bytes}
+use Rattle.step_kinds.specs.Limits.{most_count, most_frame_bytes}
 use Rattle.lane_model.specs.Lane.{Entry, Carries, GoesDown, bytes_of, chunks_in}
 use Rattle.pair_model.specs.Labels.{labels_of}
 use Rattle.pair_model.specs.Pieces.{pieces_of}
@@ -58,7 +58,7 @@ sender_seen sender =
 
 -- the most entries and frames of one session
 abbrev pub most_numbers : ℕ
-most_numbers = 2 ^ 62
+most_numbers = most_count
 
 -- the most writes of a frame that are left to post
 abbrev pub most_writes_left : ℕ

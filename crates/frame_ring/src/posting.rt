@@ -21,14 +21,10 @@ use crate::reading::{flags_offset, header_at};
 use crate::rings::{QueueRings, slot_in};
 use crate::sending::Sender;
 use bridge_pair::{Pair, Write};
-use plan_numbers::{CHUNK_SIZE, side_plan};
+use lane_model::{CHUNK_SIZE, DONE, LINK_DOWN};
+use plan_numbers::side_plan;
 use ring_geometry::ver_of;
 use step_kinds::Label;
-
-// The flags of a header: DONE, and LINK_DOWN beside it.
-const DONE: u32 = 1;
-
-const LINK_DOWN: u32 = 2;
 
 /// Whether the peer has the window that the side sends through on the queue.
 pub fn reaches(rings: &QueueRings) -> bool

@@ -14,10 +14,8 @@ ghost use Rattle.pair_model.specs.Sizes.{pieces_in as pieces_by};
 use plan_numbers::{pieces_in, writes_in};
 use std::alloc::{AllocError, Global};
 use std::marker::Model;
+use step_kinds::limits::MOST_COUNT;
 use step_kinds::{Frame, Label};
-
-// The most entries and frames of a session.
-const MOST_NUMBERS: u64 = 1 << 62;
 
 /// How far a side is with what it sends on a queue.
 #[derive(Drop)]
@@ -232,7 +230,7 @@ pub fn has_numbers(begun: u64, more: u32, told: u64) -> bool
     requires frames { told ≤ most_numbers }
     ensures { IsTrue result ↔ (begun + more ≤ most_numbers) × (told < most_numbers) }
 {
-    begun + u64::from(more) <= MOST_NUMBERS && told < MOST_NUMBERS
+    begun + u64::from(more) <= MOST_COUNT && told < MOST_COUNT
 }
 
 /// The payload of a piece of a frame.

@@ -4,7 +4,8 @@ ghost use Rattle.std.specs.Prelude.{◌≡◌, ◌≤◌, length};
 ghost use Rattle.step_kinds.specs.Limits.{most_frame_bytes};
 ghost use Rattle.lane_model.specs.Lane.{bytes_of, chunks_in, flags_of};
 
-use crate::slot::{CHUNK, DONE, LINK_DOWN};
+use crate::slot::CHUNK;
+use lane_model::{DONE, LINK_DOWN};
 use step_kinds::Frame;
 
 /// What the sender began: a frame, or the word that its end of the queue goes down.

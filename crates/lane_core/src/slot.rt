@@ -4,17 +4,11 @@ ghost use Rattle.std.specs.Prelude.{◌≡◌, ◌*◌, ◌<◌, ◌≤◌, leng
 ghost use Rattle.lane_model.specs.Lane.{bytes_of, chunk_of, chunk_size, overwritten, with_field};
 
 use crate::entry::Entry;
-use lane_model::Field;
+use lane_model::{CHUNK_SIZE, DONE, Field, LINK_DOWN};
 use std::alloc::{AllocError, Global};
 
-/// The bytes of a chunk: a payload is cut from its start, and the last chunk may be shorter.
-pub const CHUNK: usize = 128;
-
-/// The bit of a header's flags that says that the entry stands whole.
-pub const DONE: u32 = 1;
-
-/// The bit of a header's flags that says that the sender's end of the queue goes down.
-pub const LINK_DOWN: u32 = 2;
+/// The bytes of a chunk, as a length.
+pub const CHUNK: usize = CHUNK_SIZE as usize;
 
 /// One slot: the payload at its beginning and the fields of the header at its end.
 #[derive(Drop)]

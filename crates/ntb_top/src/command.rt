@@ -8,9 +8,7 @@ ghost use Rattle.ntb_top.specs.Commands.{IsInRange, command_of as command_by_wor
 ghost use Rattle.ntb_top.specs.declared.command.Command.TheVariants.{Plain};
 
 use script_words::words::read_number;
-
-/// The most frames of a load.
-const MOST_LOAD_FRAMES: u32 = 30_000;
+use traffic_plan::MOST_LOAD_FRAMES;
 
 /// What the program is asked to do.
 #[derive(Clone, Copy, Debug, PartialEq, Eq)]

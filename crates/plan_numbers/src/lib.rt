@@ -12,4 +12,4 @@ pub use sides::{
     class_among, classes_of, copy_of, header_bytes, high_half, kind_of, low_half, memory_bytes,
     own_address, side_plan, speaks_five,
 };
-pub use writes::{CHUNK_SIZE, chunks_in, pieces_in, posts_in, writes_in};
+pub use writes::{chunks_in, pieces_in, posts_in, writes_in};

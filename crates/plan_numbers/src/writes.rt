@@ -10,10 +10,8 @@ ghost use Rattle.pair_model.specs.Sizes.{pieces_in};
 
 use crate::rings::sending_ring;
 use crate::sides::speaks_five;
+use lane_model::CHUNK_SIZE;
 use step_kinds::{PairPlan, Side};
-
-/// The most bytes of a chunk: a payload is written and copied in chunks, of which only the last one may be shorter.
-pub const CHUNK_SIZE: u32 = 128;
 
 /// How many chunks so many bytes are, at most 65,536.
 pub fn chunks_in(len: u32) -> u32

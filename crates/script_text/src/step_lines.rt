@@ -15,6 +15,7 @@ use crate::lines::AddResult;
 use crate::lookups::{
     QueueWords, SideWords, read_device, read_pair, read_queue_name, read_side_name, read_switch,
 };
+use net_dev::HEADER_BYTES;
 use plan_numbers::{posts_in, side_plan};
 use script_plan::Reader;
 use script_words::step_words::{
@@ -334,7 +335,7 @@ fn ethernet_steps(
     let pair = device.pair;
     let side = device.side;
     let queue = device.queue;
-    let len = payload.len() + 14;
+    let len = payload.len() + HEADER_BYTES;
     let begin = Step::Xbegin {
         pair,
         side,
@@ -371,7 +372,7 @@ fn ethernet_line(
     let dst = at(3, read_array::<6>(address))?;
     let kind = at(4, read_kind(kind))?;
     let bytes = read_bytes_at(alloc, 5, payload)?;
-    if bytes.len() > MOST_FRAME_BYTES as usize - 14 {
+    if bytes.len() > (MOST_FRAME_BYTES - HEADER_BYTES) as usize {
         return Err(LineError::Fault(Cause::TooMany.of_line()));
     }
     let payload = Frame::of_vec(bytes.into_vec());

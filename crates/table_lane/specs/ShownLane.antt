@@ -1,6 +1,6 @@
 -- The lane that a table shows: words, slots and parts on one side, a lane of the model on the other.
 use Rattle.std.specs.Prelude.{◌≡◌, ℕ, suc, ◌+◌, ◌-◌, ◌%◌, ◌^◌, ◌<◌, ◌≤◌, Bool, true, false, List, [], ◌∷◌, ◌++◌, length, map, take, drop, slice_index, slice_index_or, if◌then◌else◌, nat_lt, ◌⊎◌}
-use Rattle.step_kinds.specs.Limits.{most_frame_bytes, most_traffic_entries}
+use Rattle.step_kinds.specs.Limits.{most_count, most_frame_bytes, most_traffic_entries}
 use Rattle.table_lane.specs.LaneNames.{tail_of, Entry, entry_of_frame, Write, Flag, Bell, data_of, Slot, Lane, HoldsRingLaw, Phase, Idle, Copying, Copied, Cleared}
 use Rattle.table_lane.specs.Words.{Words, header_of, cut_word}
 use Rattle.table_lane.specs.Views.{Bytes}
@@ -84,7 +84,7 @@ claimed_by sent claims = sent + (if claims then 1 else 0)
 
 -- no count of the frames of a lane is more than this
 abbrev pub most_lane_frames : ℕ
-most_lane_frames = 2 ^ 62
+most_lane_frames = most_count
 
 -- one entry stays free
 pub record RoomStands (N : ℕ) (sent : ℕ) (claims : Bool) (freed : ℕ) : Type 0 where

@@ -42,7 +42,7 @@ impl Standing {
 }
 
 /// A flag word of an entry that stands whole.
-pub(crate) const DONE: u64 = 1;
+pub(crate) const DONE: u64 = lane_model::DONE as u64;
 
 /// The link word once the link is cut.
 pub(crate) const CUT: u64 = 1;

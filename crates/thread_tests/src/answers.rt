@@ -10,7 +10,7 @@ use std::sync::Wait;
 use std::thread::Threads;
 
 /// More bytes than any text here has.
-const ROOM: usize = 100_000;
+const TEXT_ROOM: usize = 100_000;
 
 /// The words of a command line. It may be out of memory.
 pub(crate) fn words_of(alloc: Global, texts: &[&str]) -> Result<Vec<String>, AllocError> {
@@ -33,7 +33,7 @@ pub(crate) fn answer_to<R: Threads + Wait + Sync, G: Gate>(
 {
     let words = words_of(alloc, &[command])?;
     let mut source = PlainSource::new(String::from_str(alloc, script)?.into_bytes());
-    let mut sink = MemorySink::new(alloc, ROOM, ROOM, Vec::new(alloc))?;
+    let mut sink = MemorySink::new(alloc, TEXT_ROOM, TEXT_ROOM, Vec::new(alloc))?;
     let ended = run_program(rt, alloc, &words, &mut source, &mut sink, gate);
     Ok((ended, sink))
 }

@@ -1,6 +1,7 @@
 //! The workers of two lanes meet at a gate.
 
 use crate::answers::answer_to;
+use crate::reads::{READS, READS_TO_YIELD};
 use io_edges::{Gate, MemorySink};
 use ntb_top::Ended;
 use std::sync::atomic::{AtomicBool, Ordering};
@@ -31,12 +32,6 @@ stream q A 0 items 1 sessions 1
 item 0 6263
 end
 ";
-
-/// How often a worker reads the flags of the others.
-const READS: u32 = 100_000_000;
-
-/// After so many reads it lets other threads run.
-const READS_TO_YIELD: u32 = 1_024;
 
 /// Whether a worker came, and whether it saw all come.
 #[derive(Drop)]

@@ -25,7 +25,7 @@ end
 ";
 
 /// More bytes than any text here has.
-const ROOM: usize = 1_000;
+const PIECE_ROOM: usize = 1_000;
 
 /// A source that counts its reads.
 #[derive(Drop)]
@@ -88,7 +88,7 @@ fn counts_of<R: Threads + Wait + Sync>(
 {
     let words = words_of(alloc, words)?;
     let script = String::from_str(alloc, SCRIPT)?.into_bytes();
-    let sink = MemorySink::new(alloc, ROOM, piece, Vec::new(alloc))?;
+    let sink = MemorySink::new(alloc, PIECE_ROOM, piece, Vec::new(alloc))?;
     let mut sink = CountedSink {
         inner: sink,
         writes: 0,
@@ -132,16 +132,16 @@ fn streams_are_taken_in_pieces(rt: HostRuntime) -> Result<(), Fail> {
     assert!(rt; is_taken_in(&rt, rt.alloc(), 12)?);
     assert!(rt; is_taken_in(&rt, rt.alloc(), 50)?);
     assert!(rt; is_taken_in(&rt, rt.alloc(), 51)?);
-    assert!(rt; is_taken_in(&rt, rt.alloc(), ROOM)?);
+    assert!(rt; is_taken_in(&rt, rt.alloc(), PIECE_ROOM)?);
     Ok(())
 }
 
 // Words that are no command, and those of a command without a script, read nothing.
 #[test]
 fn others_read_nothing(rt: HostRuntime) -> Result<(), Fail> {
-    let none = counts_of(&rt, rt.alloc(), &["reply"], ROOM)?;
+    let none = counts_of(&rt, rt.alloc(), &["reply"], PIECE_ROOM)?;
     assert!(rt; none.status == 2 && none.written.as_slice() == b"usage\n".as_slice());
-    let load = counts_of(&rt, rt.alloc(), &["load", "1", "1"], ROOM)?;
+    let load = counts_of(&rt, rt.alloc(), &["load", "1", "1"], PIECE_ROOM)?;
     assert!(rt; load.status == 0 && load.written.starts_with(b"load 1 1 ".as_slice()));
     assert!(rt; none.reads == 0 && load.reads == 0);
     assert!(rt; none.writes == 1 && load.writes == 1);

@@ -1,6 +1,7 @@
 //! Workers pass the gate before their turns: one that is held there has not made its turn.
 
 use crate::answers::answer_to;
+use crate::reads::{MORE_READS, READS, READS_TO_YIELD};
 use io_edges::Gate;
 use std::sync::atomic::{AtomicBool, Ordering};
 use std::test::Fail;
@@ -27,15 +28,6 @@ end
 
 /// Both frames are sent before the link is cut.
 const SENT_FIRST: &str = "lane p A 0 1 accepted 2 ";
-
-/// How often a worker reads whether another came.
-const READS: u32 = 100_000_000;
-
-/// Once it came, the worker reads so often more.
-const MORE_READS: u32 = 1_000_000;
-
-/// After so many reads it lets other threads run.
-const READS_TO_YIELD: u32 = 1_024;
 
 /// A gate that holds the worker that sends until the one that cuts came. It may hold the latter until the sender, which
 /// sends two frames, comes to its third turn.

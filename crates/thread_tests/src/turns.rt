@@ -1,6 +1,7 @@
 //! The turns that the workers of two lanes tell a gate, where one lane's link is lost.
 
 use crate::answers::answer_to;
+use crate::reads::{MORE_READS, READS, READS_TO_YIELD};
 use io_edges::Gate;
 use std::alloc::{AllocError, Global};
 use std::sync::atomic::{AtomicBool, AtomicU64, Ordering};
@@ -30,16 +31,8 @@ const OF_STREAM: [u64; 16] = [2, 2, 2, 1, 1, 1, 1, 0, 2, 2, 2, 1, 1, 1, 1, 0];
 /// that receives in lane 0.
 const HELD: u32 = 2;
 
-/// It is held until this worker comes, which cuts the link of lane 0, or so many reads were made.
+/// It is held until this worker comes, which cuts the link of lane 0, or it has read often enough.
 const CUTTER: usize = 3;
-
-const READS: u32 = 100_000_000;
-
-/// And then for so many reads more.
-const MORE_READS: u32 = 1_000_000;
-
-/// After so many reads it lets other threads run.
-const READS_TO_YIELD: u32 = 1_024;
 
 /// What one worker told: the number of its next turn, and how many sessions it began.
 #[derive(Drop)]

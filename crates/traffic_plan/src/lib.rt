@@ -11,4 +11,4 @@ mod load;
 mod steps;
 
 pub use lanes::{breaks, lane_traffic};
-pub use load::{LoadFrames, generate, load_without_steps};
+pub use load::{LoadFrames, MOST_LOAD_FRAMES, generate, load_without_steps};

@@ -16,6 +16,9 @@ use std::marker::Model;
 use step_kinds::{Frame, Items, Line, Name, PairPlan, Plan, Side};
 use step_list::StepList;
 
+/// The most frames of a load.
+pub const MOST_LOAD_FRAMES: u32 = 30_000;
+
 /// The two words of the next frame.
 fn frame_words(words: &mut SplitMix64) -> (u64, u64)
     ensures first { result.0 ≡ word_at words.old }

@@ -13,7 +13,7 @@ use std::thread::Threads;
 const TOO_MANY: usize = 16_777_217;
 
 /// The bytes that a failing stream gives or takes at a call.
-const PIECE: usize = 8;
+const FAILING_PIECE: usize = 8;
 
 /// More calls than a stream of such pieces has.
 const CALLS: u64 = 1_000;
@@ -44,7 +44,7 @@ pub fn read_faults_are_told<R: Threads + Wait + Sync>(
             Seen::Other => return Ok(false),
         }
     }
-    Ok(told > case.script.len() as u64 / PIECE as u64 && told < CALLS)
+    Ok(told > case.script.len() as u64 / FAILING_PIECE as u64 && told < CALLS)
 }
 
 // What is answered where this call of the source fails.
@@ -54,8 +54,8 @@ fn read_fault<R: Threads + Wait + Sync>(
     case: &Case,
     call: u64,
 ) -> Result<Seen, AllocError> {
-    let mut source = source_of(alloc, &case.script, PIECE, Some(call))?;
-    let mut sink = sink_of(alloc, PIECE, None)?;
+    let mut source = source_of(alloc, &case.script, FAILING_PIECE, Some(call))?;
+    let mut sink = sink_of(alloc, FAILING_PIECE, None)?;
     read_fault_over(rt, alloc, case, &mut source, &mut sink)
 }
 
@@ -98,7 +98,7 @@ fn are_told_of<R: Threads + Wait + Sync>(
     let mut kept = 0usize;
     for call in 0..CALLS {
         match write_fault(rt, alloc, case, call, whole, kept)? {
-            Seen::Fault => kept = kept.saturating_add(PIECE),
+            Seen::Fault => kept = kept.saturating_add(FAILING_PIECE),
             Seen::Whole => break,
             Seen::Other => return Ok(false),
         }
@@ -115,8 +115,8 @@ fn write_fault<R: Threads + Wait + Sync>(
     whole: &[u8],
     kept: usize,
 ) -> Result<Seen, AllocError> {
-    let mut source = source_of(alloc, &case.script, PIECE, None)?;
-    let mut sink = sink_of(alloc, PIECE, Some(call))?;
+    let mut source = source_of(alloc, &case.script, FAILING_PIECE, None)?;
+    let mut sink = sink_of(alloc, FAILING_PIECE, Some(call))?;
     let status = status_of(rt, alloc, "replay", &mut source, &mut sink)?;
     drop(source);
     Ok(seen_by(&sink, status, case, whole, kept))
@@ -198,8 +198,8 @@ fn answer_to<R: Threads + Wait + Sync>(
     alloc: Global,
     script: &[u8],
 ) -> Result<Vec<u8>, AllocError> {
-    let mut source = source_of(alloc, script, PIECE, None)?;
-    let mut sink = sink_of(alloc, PIECE, None)?;
+    let mut source = source_of(alloc, script, FAILING_PIECE, None)?;
+    let mut sink = sink_of(alloc, FAILING_PIECE, None)?;
     let _status = status_of(rt, alloc, "replay", &mut source, &mut sink)?;
     Vec::from_slice(alloc, sink.held())
 }

@@ -9,7 +9,7 @@ use std::sync::Wait;
 use std::thread::Threads;
 
 /// More bytes than any text has.
-const ROOM: usize = 1_000_000;
+const MOST_TEXT: usize = 1_000_000;
 
 /// Whether the program answers the case's status and writes its parts, in whatever pieces its input and its output
 /// come. The only error is running out of memory.
@@ -19,7 +19,7 @@ pub fn gives_what_is_expected<R: Threads + Wait + Sync>(
     case: &Case,
 ) -> Result<bool, AllocError> {
     let mut passed = true;
-    for piece in [1usize, 7, 8, ROOM] {
+    for piece in [1usize, 7, 8, MOST_TEXT] {
         passed = passed && gives_in_pieces(rt, alloc, case, piece)?;
     }
     Ok(passed)
@@ -77,7 +77,7 @@ pub fn source_of(
 
 /// A sink that takes so many bytes a call, of which one may fail. The only error is running out of memory.
 pub fn sink_of(alloc: Global, piece: usize, fails: Option<u64>) -> Result<MemorySink, AllocError> {
-    MemorySink::new(alloc, ROOM, piece, calls_of(alloc, fails)?)
+    MemorySink::new(alloc, MOST_TEXT, piece, calls_of(alloc, fails)?)
 }
 
 fn calls_of(alloc: Global, call: Option<u64>) -> Result<Vec<u64>, AllocError> {

@@ -11,6 +11,7 @@ use replay_command::{load_reply, replay_reply};
 use std::alloc::{AllocError, Global};
 use std::io;
 use step_kinds::limits::MOST_SCRIPT_BYTES;
+use traffic_plan::MOST_LOAD_FRAMES;
 
 /// Says of each row of the table whether it passed, or the first line that isn't what is wanted.
 pub fn tell_steps<R: Print>(rt: &R, alloc: Global, lines: &[String]) -> io::Result<()> {
@@ -38,9 +39,6 @@ fn tell_block<R: Print>(rt: &R, alloc: Global, block: &Block) -> io::Result<()> 
         }
     }
 }
-
-/// The most frames of a load.
-const MOST_FRAMES: u32 = 30_000;
 
 /// A script, and the lines of its report that are wanted.
 #[derive(Drop)]
@@ -207,7 +205,7 @@ fn take_report(came: &mut Came, lines: &[u32], report: &[u8]) -> Result<(), Allo
 // What the program answers to a row, unless it is too long for a script, or a load of too many frames.
 fn reply_to(alloc: Global, row: &StepRow) -> Result<Option<Reply>, AllocError> {
     if let Some((seed, frames)) = row.load {
-        if frames == 0 || frames > MOST_FRAMES {
+        if frames == 0 || frames > MOST_LOAD_FRAMES {
             return Ok(None);
         }
         return Ok(Some(load_reply(alloc, seed, frames)?));

@@ -7,6 +7,7 @@ ghost use Rattle.cluster_run.specs.Lanes.{most_lanes};
 ghost use Rattle.cluster_run.specs.stream.Keys.{AreNumbered};
 ghost use Rattle.cluster_run.specs.stream.Workers.{most_stream_workers};
 
+use crate::group::MOST_OPEN;
 use crate::rounds::finished;
 use crate::stream::lanes::StreamWork;
 use crate::tasks::LaneTask;
@@ -15,12 +16,10 @@ use std::alloc::{AllocError, Global};
 use std::collections::VecDeque;
 use std::sync::Wait;
 use std::thread::Threads;
+use step_kinds::limits::MOST_TRAFFIC_ENTRIES;
 
-/// The rings of the streams that are open together, two of each, have at most so many entries in all.
-const MOST_OPEN: u32 = 1_000_000;
-
-/// The two rings of a stream have at most so many.
-const MOST_ENTRIES: u32 = 131_070;
+/// The two rings of a stream have at most so many entries.
+const STREAM_ENTRIES: u32 = 2 * MOST_TRAFFIC_ENTRIES;
 
 /// Opens the stream `first` and those of the lanes that wait which may be open together with it, in order, where so
 /// many lanes have traffic. The only error is running out of memory.
@@ -37,7 +36,7 @@ pub(crate) fn next_group(
 {
     let mut entries = 2 * first.entries();
     let mut works = vec![in alloc; StreamWork::new(alloc, lanes, first)?]?;
-    while entries <= MOST_OPEN - MOST_ENTRIES
+    while entries <= MOST_OPEN - STREAM_ENTRIES
         && let Some(task) = waiting.pop_front()
     {
         entries += 2 * task.entries();

@@ -3,6 +3,8 @@
 ghost use Rattle.std.specs.Prelude.{◌≡◌, ◌≤◌};
 ghost use Rattle.cluster_run.specs.stream.Workers.{LetsBoth};
 
+use crate::in_threads::TURNS;
+use crate::progress::IDLE_PASSES;
 use crate::stream::offering::Turn;
 use crate::stream::pair::{PairCutting, PairMoving};
 use crate::stream::round::Round;
@@ -21,16 +23,11 @@ pub(crate) struct Aim {
     pub(crate) cut_after: Option<usize>,
 }
 
-/// At most so many passes a worker makes in a round, of so many turns each.
+/// At most so many passes a worker makes in a round.
 const PASSES: u32 = 256;
-
-const TURNS: u32 = 4_096;
 
 /// At most so many passes the movers make, which are short where nothing is to be moved.
 const MOVER_PASSES: u32 = 65_536;
-
-/// After so many passes in a row in which it sent nothing the source leaves the round.
-const IDLE_PASSES: u32 = 16;
 
 // The source's part of a round. It leaves once nothing is left to send, or where it sent nothing for a while.
 fn give_in_thread<G: Gate>(source: &mut Source, gate: &G, round: &Round)

@@ -4,14 +4,12 @@ ghost use Rattle.std.specs.Prelude.{◌≡◌, ◌≤◌};
 ghost use Rattle.cluster_run.specs.Workers.{most_pass_turns};
 ghost use Rattle.cluster_run.specs.stream.Workers.{LetsBoth};
 
+use crate::in_turn::TIMES;
 use crate::stream::in_threads::Aim;
 use crate::stream::pair::{PairCutting, PairMoving};
 use crate::stream::sink::Sink;
 use crate::stream::source::Source;
 use io_edges::Gate;
-
-/// At most so often the workers make their passes in a round.
-const TIMES: u32 = 1_024;
 
 impl Aim {
     // Whether the link is to be cut with so many items kept.

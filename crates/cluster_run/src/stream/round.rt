@@ -1,5 +1,6 @@
 //! What the workers of a stream tell one another during a round in threads of their own.
 
+use crate::progress::CUT_LOOKS;
 use std::sync::atomic::{AtomicBool, AtomicU64, Ordering};
 use std::thread;
 
@@ -11,9 +12,6 @@ pub(crate) struct Round {
     source_left: AtomicBool,
     movers_left: AtomicBool,
 }
-
-/// So often the cutting worker looks how far the sink is, and lets other threads run, before it cuts anyway.
-const LOOKS: u32 = 20_000;
 
 impl Round {
     /// At the start of a round, where nothing is known and nobody has left.
@@ -64,7 +62,7 @@ impl Round {
     /// Lets other threads run until so many items are kept, the round is over, the movers have left it, or it has
     /// looked often.
     pub(crate) fn await_kept(&self, count: usize) {
-        for _ in 0..LOOKS {
+        for _ in 0..CUT_LOOKS {
             if self.kept.load(Ordering::SeqCst) >= count as u64
                 || self.is_over()
                 || self.have_movers_left()

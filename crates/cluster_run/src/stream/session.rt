@@ -8,6 +8,7 @@ ghost use Rattle.cluster_run.specs.stream.LaneFields.{HaveNumbers};
 ghost use Rattle.cluster_run.specs.stream.Sessions.{CanBegin, EndsWith, new_session};
 ghost use Rattle.cluster_run.specs.stream.Workers.{LetsSession};
 
+use crate::session::MOST_TURNS;
 use crate::stream::in_threads::{Aim, pass_in_threads};
 use crate::stream::in_turn::pass_in_turn;
 use crate::stream::numbers::LaneNumbers;
@@ -46,9 +47,6 @@ pub(crate) struct SessionEnd {
     /// What the lane of acknowledgements did.
     pub(crate) ack_proof: LaneProof,
 }
-
-/// At most so many turns a pass has where one thread makes those of all workers in turn.
-const MOST_TURNS: usize = 1_024;
 
 // The ends of a lane.
 type LaneEnds = (SendEnd, MoveEnd, RecvEnd, BackEnd, CutEnd);
