@@ -126,6 +126,54 @@ class Bound(Folder):
             self.write("tools/more", "")
 
 
+class Constants(Folder):
+    """One constant and one definition for each number."""
+
+    def house(self, low: str, high: str) -> list[str]:
+        """What tools/house finds where these lines stand in two crates, of which the second stands on the first."""
+        files = {"crates.txt": "low:\nhigh: low\n", "crates/low/src/lib.rt": low, "crates/high/src/lib.rt": high}
+        (self.folder / "tools").mkdir(exist_ok=True)
+        shutil.copy(TOOLS / "house", self.folder / "tools")
+        for name, content in files.items():
+            (self.folder / name).parent.mkdir(parents=True, exist_ok=True)
+            self.write(name, content)
+        subprocess.run(["git", "init", "-q"], cwd=self.folder, check=True)
+        words = [str(self.folder / "tools" / "house"), "constants"]
+        done = subprocess.run(words, capture_output=True, text=True, check=False)
+        *found, last = done.stdout.splitlines()
+        self.assertEqual(last, f"constants: {len(found)} found, 0 allowed by tools/house_constants.txt")
+        self.assertEqual((done.returncode, done.stderr), (int(bool(found)), ""))
+        return found
+
+    def test_second(self) -> None:
+        """A second constant is found: of the same name, or of the same value where its name says the same."""
+        low = "pub const MOST_QUEUES: u32 = 16;\n"
+        names = {
+            "const MOST_QUEUES: u32 = 8;": "MOST_QUEUES",
+            "pub(crate) const QUEUES: usize = 1_6;": "QUEUES",
+            "const LAST_QUEUE: u32 = 16u32;": "LAST_QUEUE",
+        }
+        for line, name in names.items():
+            with self.subTest(line):
+                told = f"crates/high/src/lib.rt:1: {name} is MOST_QUEUES of crates/low/src/lib.rt"
+                self.assertEqual(self.house(low, f"{line}\n"), [told])
+
+    def test_others(self) -> None:
+        """No other is found: of another value or notion, or made of the first one by its name."""
+        low = "pub const MOST_QUEUES: u32 = 16;\n"
+        for line in ("const QUEUES: u32 = 15;", "const MOST_PADS: u32 = 16;", "const QUEUES: usize = MOST_QUEUES as usize;",
+                     "const QUEUES: u32 = low::MOST_QUEUES;", "// const MOST_QUEUES: u32 = 16;"):
+            with self.subTest(line):
+                self.assertEqual(self.house(low, f"{line}\n"), [])
+
+    def test_definitions(self) -> None:
+        """A second definition is found, in one crate too."""
+        (self.folder / "crates" / "low" / "specs").mkdir(parents=True)
+        self.write("crates/low/specs/Lib.antt", "most_queues = 2 ^ 4\nlast_queue = 2 ^ 4\nqueues = most_queues\n")
+        told = "crates/low/specs/Lib.antt:2: last_queue is most_queues of crates/low/specs/Lib.antt"
+        self.assertEqual(self.house("", ""), [told])
+
+
 class Python(unittest.TestCase):
     """The files in Python."""
 
