@@ -1,9 +1,13 @@
 -- What a look leaves of the queue.
 use Rattle.std.proofs.Common.{◌≡◌, ◌∙◌, Ok, sym, ap, subst, true, rules, arith}
 use Rattle.std.proofs.lemmas.Grind.{common_steps}
+use Rattle.std.specs.declared.alloc.AllocError.{AllocError}
+use Rattle.step_kinds.specs.Sides.{other_side}
+use Rattle.bridge_pair.specs.Bridge.{pages_of}
+use Rattle.bridge_pair.specs.Pages.{PagesGrow}
 use Rattle.frame_ring.specs.Calls.{TouchedByFlags, TouchedByLook}
 use Rattle.frame_ring.specs.Port.{PortState}
-use Rattle.frame_ring.specs.PortCalls.{HasPromisedBoth}
+use Rattle.frame_ring.specs.PortCalls.{HasPromisedBoth, IsGrownBoth}
 use Rattle.frame_ring.specs.declared.RingLook.{RingLook}
 use Rattle.queue_pair.proofs.LookAnswers.{answers_closed, answers_unjoined, looked, looked_else, looked_is, unchanged_closed, unchanged_unjoined}
 use Rattle.queue_pair.specs.Gates.{after_look, is_joined}
@@ -29,34 +33,34 @@ port_left c = elim c.match-look.branch [
 ]
 
 pub returns : goal.returns
-returns c =
-    let pair = c.args.pair.now in
-    let here = (goal.at.returns c).After-answer_of_look in
-    let by_port =
-    subst (λ (left : PortState). HasPromisedBoth (TouchedByLook c.self.inside.port pair) (TouchedByFlags c.self.inside.port pair) c.self.inside.port left pair c.look.new.pair (Ok c.in_ok-look.look))
-    (sym (port_left here)) c.in_ok-look.ensures.promises in
-    let promised =
-    subst (λ (queue : QueueState). HasPromisedBoth (TouchedByLook queue.port pair) (TouchedByFlags queue.port pair) queue.port c.match-look.self.port pair c.look.new.pair (Ok c.in_ok-look.look)) c.self.view_is by_port in
-    record {
-      answer = first_of (search rules, grind (arith, common_steps));
-      after = queue_left here;
-      err = tt;
-      wants = tt;
-      promises = record { rest = promised.rest; pages = promised.pages; flags = promised.flags; ready = promised.ready };
-    }
+returns c = record {
+  answer = first_of (search rules, grind (arith, common_steps));
+  after = queue_left c;
+  err = tt;
+  wants = tt;
+  promises =
+      let pair = c.args.pair.now in
+      let by_port =
+      subst (λ (left : PortState). HasPromisedBoth {E = AllocError} (TouchedByLook c.self.inside.port pair) (TouchedByFlags c.self.inside.port pair) c.self.inside.port left pair c.look.new.pair (Ok c.in_ok-look.look))
+      (sym (port_left c)) c.in_ok-look.ensures.promises in
+      let promised =
+      subst (λ (queue : QueueState). HasPromisedBoth {E = AllocError} (TouchedByLook queue.port pair) (TouchedByFlags queue.port pair) queue.port c.match-look.self.port pair c.look.new.pair (Ok c.in_ok-look.look)) c.self.view_is by_port in
+      record { rest = promised.rest; pages = promised.pages; flags = promised.flags; ready = promised.ready };
+}
 
 pub returns-in_err-look : goal.returns-in_err-look
-returns-in_err-look c =
-    let pair = c.args.pair.now in
-    let promised =
-    subst (λ (queue : QueueState). HasPromisedBoth (TouchedByLook queue.port pair) (TouchedByFlags queue.port pair) queue.port c.look.new.self pair c.look.new.pair c.look.result) c.self.view_is c.look.ensures.promises in
-    record {
-      answer = first_of (search rules, grind (arith, common_steps));
-      after = first_of (search rules, grind (arith, common_steps));
-      err = first_of (search rules, grind (arith, common_steps));
-      wants = first_of (search rules, grind (arith, common_steps));
-      promises = record { rest = promised.rest; pages = promised.pages; flags = promised.flags; ready = first_of (search rules, grind (arith, common_steps)) };
-    }
+returns-in_err-look c = record {
+  answer = first_of (search rules, grind (arith, common_steps));
+  after = first_of (search rules, grind (arith, common_steps));
+  err = first_of (search rules, grind (arith, common_steps));
+  wants = first_of (search rules, grind (arith, common_steps));
+  promises = record {
+    rest = subst (λ (queue : QueueState). IsGrownBoth queue.port c.look.new.self c.args.pair.now c.look.new.pair) c.self.view_is c.look.ensures.rest;
+    pages = subst (λ (queue : QueueState). PagesGrow (TouchedByLook queue.port c.args.pair.now) (pages_of c.args.pair.now (other_side queue.port.side)) (pages_of c.look.new.pair (other_side queue.port.side))) c.self.view_is c.look.ensures.pages;
+    flags = subst (λ (queue : QueueState). PagesGrow (TouchedByFlags queue.port c.args.pair.now) (pages_of c.args.pair.now queue.port.side) (pages_of c.look.new.pair queue.port.side)) c.self.view_is c.look.ensures.flags;
+    ready = first_of (search rules, grind (arith, common_steps));
+  };
+}
 
 pub returns-then-not-is_joined : goal.returns-then-not-is_joined
 returns-then-not-is_joined c =
