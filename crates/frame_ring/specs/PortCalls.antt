@@ -36,10 +36,13 @@ pub record HasPromised {X E : Type 0} (Touched : ℕ → Type 0) (old new : Port
 
 -- and so that an entry that was found can be taken and given back
 pub record HasPromisedBoth {X E : Type 0} (Touched Flags : ℕ → Type 0) (old new : PortState) (early late : Bridge) (result : Result X E) : Type 0 where
+  -- no more of the pair changed than promises
   pub rest : IsGrownBoth old new early late
+  -- of the peer's pages those alone became promised that the index write needs
   pub pages : PagesGrow Touched (pages_of early (other_side old.side)) (pages_of late (other_side old.side))
   -- of the side's own pages those alone that the flags need
   pub flags : PagesGrow Flags (pages_of early old.side) (pages_of late old.side)
+  -- all pages that the port needs are promised, if they were before
   pub ready : OnOk result (HasPagesIn old early → HasPagesIn new late)
 
 -- promises of room are used and given back together with what they were for
@@ -61,11 +64,15 @@ pub record HasBegun {E : Type 0} (old new : PortState) (early late : Bridge) (fr
   pub promises : HasPromised (TouchedByBegin old early frame) old new early late result
   pub open promises use *
 
--- the same of a frame that isn't refused, whose number is the result
+-- the same of a frame that isn't refused
 pub record HasBegunUnrefused {E : Type 0} (old new : PortState) (early late : Bridge) (frame : List ℕ) (result : Result ℕ E) : Type 0 where
+  -- the result is the number under which it is begun
   pub number : IfOk result (λ number. begin_answer old early (length frame) ≡ BegunOk number)
+  -- its writes are left to post
   pub after : OnOk result (new ≡ after_begin old early frame)
+  -- out of memory leaves the port as it was
   pub err : OnErr result (new ≡ old)
+  -- the pages and the room of its writes are promised
   pub promises : HasPromised (TouchedByBegin old early frame) old new early late result
   pub open promises use *
 
@@ -111,8 +118,11 @@ pub record HasLooked {E : Type 0} (old new : PortState) (early late : Bridge) (r
 
 -- the same of an entry that is there
 pub record HasFound {X E : Type 0} (old new : PortState) (early late : Bridge) (result : Result X E) : Type 0 where
+  -- the entry is at hand to be copied
   pub after : OnOk result (new ≡ after_look old early)
+  -- out of memory leaves the port as it was
   pub err : OnErr result (new ≡ old)
+  -- the pages and the room to take the entry and to give it back are promised
   pub promises : HasPromisedBoth (TouchedByLook old early) (TouchedByFlags old early) old new early late result
   pub open promises use *
 

@@ -25,11 +25,15 @@ pub record HasBegunOnQueue {E : Type 0} (old new : QueueState) (early late : Bri
   pub promises : HasPromised (TouchedByBegin old.port early frame) old.port new.port early late result
   pub open promises use *
 
--- the same of a frame that isn't refused, whose number is the result
+-- the same of a frame that isn't refused
 pub record HasBegunUnrefusedOnQueue {E : Type 0} (old new : QueueState) (early late : Bridge) (frame : List ℕ) (result : Result ℕ E) : Type 0 where
+  -- the result is the number under which it is begun
   pub number : IfOk result (λ number. begin_answer old early (length frame) ≡ IsBegun number)
+  -- its writes are left to post
   pub after : OnOk result (new ≡ after_begin old early frame)
+  -- out of memory leaves the queue as it was
   pub err : OnErr result (new ≡ old)
+  -- the port has promised what the writes need
   pub promises : HasPromised (TouchedByBegin old.port early frame) old.port new.port early late result
   pub open promises use *
 
@@ -61,7 +65,10 @@ pub record HasLookedOnQueue {E : Type 0} (old new : QueueState) (early late : Br
 
 -- the same of an entry that is there
 pub record HasFoundOnQueue {X E : Type 0} (old new : QueueState) (early late : Bridge) (result : Result X E) : Type 0 where
+  -- the entry is at hand to be copied
   pub after : OnOk result (new ≡ after_look old early)
+  -- out of memory leaves the queue as it was
   pub err : OnErr result (new ≡ old)
+  -- the port has promised what it needs to take the entry and to give it back
   pub promises : HasPromisedBoth (TouchedByLook old.port early) (TouchedByFlags old.port early) old.port new.port early late result
   pub open promises use *
