@@ -1,10 +1,12 @@
 pub mod Cluster
 pub mod ClusterStep
 pub mod Clusters
+pub mod Counts
 pub mod InFlight
 pub mod Laws
 pub mod LogClauses
 pub mod Moves
 pub mod Parts
+pub mod PlanSteps
 pub mod Refusals
 pub mod Wants

@@ -20,4 +20,5 @@ pub mod NetworkLog
 pub mod Network
 pub mod Origins
 pub mod Paths
+pub mod PlanLog
 pub mod Ports

@@ -10,7 +10,7 @@ use Rattle.explore_model.specs.States.{IsCensus}
 use Rattle.explore_model.specs.Texts.{explored_text}
 use Rattle.explore_model.specs.declared.outcome.Outcome.{Outcome}
 use Rattle.io_edges.specs.Whole.{HoldsAll}
-use Rattle.replay_command.specs.Replays.{steps_of}
+use Rattle.ledger_model.specs.PlanLog.{steps_of}
 use Rattle.script_text.specs.Script.{script_of}
 use Rattle.script_words.specs.declared.fault.ScriptFault.{ScriptFault}
 use Rattle.ntb_top.specs.Answers.{IsAnswerTo}

@@ -12,7 +12,8 @@ use Rattle.reads_command.specs.Answers.{IsTrueReply}
 use Rattle.script_text.specs.Script.{script_of}
 use Rattle.traffic_plan.specs.Load.{load_of}
 use Rattle.replay_command.specs.Headline.{IsTrueLog}
-use Rattle.replay_command.specs.Replays.{load_text, replay_text, steps_of}
+use Rattle.ledger_model.specs.PlanLog.{steps_of}
+use Rattle.replay_command.specs.Replays.{load_text, replay_text}
 use Rattle.trace_command.specs.Answers.{HasTrueTrace}
 use Rattle.trace_command.specs.Trace.{trace_text}
 use Rattle.ntb_top.specs.Commands.{command_of}

@@ -4,8 +4,8 @@ use Rattle.std.specs.List.{fold}
 use Rattle.step_kinds.specs.declared.plan.Line.{Line}
 use Rattle.ledger_model.specs.Log.{Answered}
 use Rattle.step_kinds.specs.AnsweredSteps.{AnsweredStep}
-use Rattle.replay_command.specs.ReplaySteps.{with_blocked}
-use Rattle.replay_command.specs.Replays.{answered_steps, is_blocked}
+use Rattle.replay_command.specs.Replays.{is_blocked, with_blocked}
+use Rattle.ledger_model.specs.PlanLog.{answered_steps}
 
 -- how many of a log were blocked
 abbrev pub blocked_in : List Answered → ℕ

@@ -1,5 +1,5 @@
 -- The report of a plan, made of what its functions give.
-use Rattle.std.proofs.Common.{◌≡◌, ◌∙◌, ℕ, zero, suc, ◌<◌, List, [], ◌∷◌, ◌++◌, append-nil, append_assoc, Result, Ok, Err, IfOk, OnOk, length, replicate, sym, ap, subst, arith, Global, Vec}
+use Rattle.std.proofs.Common.{◌≡◌, ◌∙◌, ℕ, zero, suc, ◌<◌, List, [], ◌∷◌, ◌++◌, append-nil, append_assoc, Result, Ok, Err, IfOk, OnOk, length, replicate, refl, sym, ap, subst, arith, Global, Vec}
 use Rattle.std.specs.List.{All, flat_map, fold}
 use Rattle.std.proofs.lemmas.List.{length-map}
 use Rattle.pair_model.specs.PlanParts.{declared_part}
@@ -13,12 +13,14 @@ use Rattle.cluster_core.specs.Cluster.{ClusterState, plan_held}
 use Rattle.cluster_core.specs.LogClauses.{HasMade}
 use Rattle.ledger_model.specs.Log.{Answered, accepted, counters_in, delivered, lane_of_device}
 use Rattle.step_kinds.specs.declared.plan.Line.{Line}
-use Rattle.report_text.specs.Report.{answer_line, device_lines, end_line, ending}
+use Rattle.report_text.specs.Report.{answer_line, count_line, count_lines, device_lines, end_line, ending}
 use Rattle.step_kinds.specs.AnsweredSteps.{AnsweredStep}
 use Rattle.step_kinds.specs.declared.plan.LaneCount.{LaneCount}
-use Rattle.replay_command.specs.ReplaySteps.{HasReplayed, filled}
-use Rattle.replay_command.specs.Replays.{answered_steps, answers_text, device_counts, lane_counts, load_lane, load_text, log_of_plan, replay_text, summary_text}
-use Rattle.replay_command.proofs.LaneCounts.{all_known, lines_of_filled}
+use Rattle.cluster_core.specs.PlanSteps.{HasReplayed}
+use Rattle.cluster_core.specs.Counts.{filled}
+use Rattle.ledger_model.specs.PlanLog.{answered_steps, device_counts, lane_counts, log_of_plan}
+use Rattle.replay_command.specs.Replays.{answers_text, load_lane, load_text, replay_text, summary_text}
+use Rattle.cluster_core.proofs.Facade.{all_known, lines_of_filled}
 use Rattle.replay_command.proofs.BlockedAnswers.{blocked_in}
 
 ending_same : (plan : Plan) (lanes : List LaneCount) (devs : List Counters) → lanes ≡ filled (lane_counts plan (log_of_plan plan)) → devs ≡ device_counts plan (log_of_plan plan) →
@@ -28,7 +30,7 @@ ending_same plan lanes devs same_lanes same_devs =
     let counts : List LaneCount = lane_counts plan log in
     ap (λ (given : List LaneCount). ending plan given devs) same_lanes
     ∙ ap (λ (given : List Counters). ending plan (filled counts) given) same_devs
-    ∙ ap (λ (lines : List ℕ). lines ++ device_lines plan.devs (device_counts plan log) ++ end_line) (lines_of_filled plan.pairs counts)
+    ∙ ap (λ (lines : List ℕ). lines ++ device_lines plan.devs (device_counts plan log) ++ end_line) (lines_of_filled (count_lines plan.pairs) (count_line plan.pairs) (λ count. refl) counts)
 
 -- A text that ends with counts of which those of no frame are left out ends as the definition says.
 pub ending_added : {T E : Type 0} (plan : Plan) (lanes : List LaneCount) (devs : List Counters) (old new : List ℕ) (result : Result T E) → lanes ≡ filled (lane_counts plan (log_of_plan plan)) →

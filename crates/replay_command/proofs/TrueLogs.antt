@@ -13,12 +13,12 @@ use Rattle.step_kinds.specs.declared.steps.Step.{Step}
 use Rattle.ledger_laws.specs.Laws.{entries_needed, is_again, is_link_down, lane_begun_by, needs_link, refused_earlier}
 use Rattle.ledger_model.specs.Log.{Answered, room_in, up_at}
 use Rattle.ledger_model.specs.Memory.{memory_of}
-use Rattle.ledger_laws.proofs.Facade.{memories_keep_pairs_apart}
+use Rattle.ledger_laws.proofs.Facade.{frames_come_in_order, frames_come_once, items_again_where_no_room, items_link_down_where_not_up, log_grows_by_items, memories_keep_pairs_apart, pairs_without_ports_are_separate, paths_keep_order}
 use Rattle.ledger_laws.specs.NetworkLaws.{bridge_ledger, item_after}
-use Rattle.ledger_laws.proofs.Facade.{frames_come_in_order, frames_come_once, items_again_where_no_room, items_link_down_where_not_up, log_grows_by_items, pairs_without_ports_are_separate, paths_keep_order}
 use Rattle.replay_command.specs.Answers.{IsLoadOf, IsReplayOf, replayed}
 use Rattle.replay_command.specs.Headline.{IsTrueLog, log_so_far}
-use Rattle.replay_command.specs.Replays.{load_text, steps_of}
+use Rattle.ledger_model.specs.PlanLog.{steps_of}
+use Rattle.replay_command.specs.Replays.{load_text}
 
 same_head : {X : Type 0} (x y : X) → x ∷ [] ≡ y ∷ [] → x ≡ y
 same_head x y e = cc e

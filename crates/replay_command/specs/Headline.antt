@@ -12,7 +12,7 @@ use Rattle.ledger_model.specs.NetworkLog.{on_bridges, switch_log}
 use Rattle.ledger_model.specs.Paths.{path_frames}
 use Rattle.ledger_laws.specs.NetworkLaws.{HasNoPort, bridge_ledger}
 use Rattle.ledger_laws.specs.Paths.{AreOrdinary, KeepsOrder}
-use Rattle.replay_command.specs.Replays.{log_of_plan, steps_of}
+use Rattle.ledger_model.specs.PlanLog.{log_of_plan, steps_of}
 
 -- the log of the first steps of a plan
 abbrev pub log_so_far : Plan → List Step → List Answered

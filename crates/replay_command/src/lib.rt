@@ -1,9 +1,8 @@
-//! The commands `replay` and `load`: a plan's steps made one after another, and the text of what they were answered.
+//! The commands `replay` and `load`: the text of what the steps of a plan are answered, made one after another.
 #![tactic(auto)]
 
 mod command;
 mod load;
-pub mod replay;
-pub mod steps;
+mod replay;
 
 pub use command::{load_reply, replay_reply};

@@ -1,12 +1,12 @@
 //! The summary of a generated load.
 
 ghost use Rattle.std.specs.Prelude.{◌≡◌, ◌≤◌, ℕ, [], IfOk, count_by};
+ghost use Rattle.ledger_model.specs.PlanLog.{log_of_plan};
+ghost use Rattle.cluster_core.specs.PlanSteps.{HasReplayed};
 ghost use Rattle.traffic_plan.specs.Load.{load_of, most_load_frames};
-ghost use Rattle.replay_command.specs.ReplaySteps.{HasReplayed, with_blocked};
-ghost use Rattle.replay_command.specs.Replays.{is_blocked as is_blocked_answer, load_text as text_of_load, log_of_plan, summary_text};
+ghost use Rattle.replay_command.specs.Replays.{is_blocked as is_blocked_answer, load_text as text_of_load, summary_text, with_blocked};
 
-use crate::steps::{KeepsAnswers, make_steps};
-use cluster_core::Cluster;
+use cluster_core::{Cluster, KeepsAnswers, make_steps};
 use std::alloc::{AllocError, Global};
 use std::marker::Model;
 use step_kinds::{Answer, LaneName, LineAnswer, Side, Step};

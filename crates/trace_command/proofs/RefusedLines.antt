@@ -15,7 +15,7 @@ use Rattle.trace_command.specs.Lines.{step_line}
 use Rattle.trace_command.specs.Writes.{PairWrites, change_by, pair_after, pair_in, pair_start, writes_after}
 use Rattle.step_kinds.specs.declared.plan.LineAnswer.{LineAnswer}
 use Rattle.step_kinds.specs.declared.plan.Plan.{Plan}
-use Rattle.replay_command.proofs.Facade.{fold_more}
+use Rattle.cluster_core.proofs.Facade.{fold_more}
 use Rattle.trace_command.specs.Trace.{Traced, with_line}
 
 unchanged_pair : (plan : PairPlan) (now : PairWrites) (step : Step) (answer : Answer) → is_made answer ≡ false → pair_after now (change_by plan step answer) ≡ now

@@ -3,8 +3,8 @@ use Rattle.std.proofs.Common.{◌≡◌, ◌∙◌, ℕ, List, [], ◌∷◌, Re
 use Rattle.command_reply.specs.Output.{Output}
 use Rattle.ledger_model.specs.Log.{Answered}
 use Rattle.ledger_model.specs.Memory.{memory_of}
-use Rattle.replay_command.specs.Replays.{answered_steps, log_of_plan}
-use Rattle.replay_command.proofs.Facade.{length-answers}
+use Rattle.ledger_model.specs.PlanLog.{answered_steps, log_of_plan}
+use Rattle.cluster_core.proofs.Facade.{length-answers}
 use Rattle.script_text.specs.Script.{script_of}
 use Rattle.script_words.specs.declared.fault.ScriptFault.{ScriptFault}
 use Rattle.step_kinds.specs.declared.plan.Line.{Line}

@@ -4,7 +4,7 @@ use Rattle.command_reply.specs.Output.{Output, done, refused}
 use Rattle.command_reply.specs.Statuses.{number_of}
 use Rattle.command_reply.specs.declared.status.Status.TheVariants.{Done}
 use Rattle.ledger_model.specs.Memory.{memory_of}
-use Rattle.replay_command.specs.Replays.{answered_steps, log_of_plan}
+use Rattle.ledger_model.specs.PlanLog.{answered_steps, log_of_plan}
 use Rattle.script_text.specs.Script.{script_of}
 use Rattle.script_words.specs.declared.fault.ScriptFault.{ScriptFault}
 use Rattle.step_kinds.specs.declared.names.Side.{Side}

@@ -1,7 +1,7 @@
 -- The trace of a plan, read off the log of its steps.
 use Rattle.std.specs.Prelude.{ℕ, List, ◌++◌}
 use Rattle.step_kinds.specs.declared.plan.Plan.{Plan}
-use Rattle.replay_command.specs.Replays.{answered_steps, device_counts, lane_counts, log_of_plan}
+use Rattle.ledger_model.specs.PlanLog.{answered_steps, device_counts, lane_counts, log_of_plan}
 use Rattle.step_kinds.specs.AnsweredSteps.{AnsweredStep}
 use Rattle.trace_command.specs.Lines.{ending, step_line, step_lines}
 use Rattle.trace_command.specs.Head.{head}

@@ -4,9 +4,10 @@ ghost use Rattle.std.specs.Prelude.{◌≡◌, ◌++◌, [], IfOk, OnOk, false, 
 ghost use Rattle.std.specs.List.{fold};
 ghost use Rattle.pair_model.specs.DeclaredPlans.{IsDeclared};
 ghost use Rattle.pair_model.specs.TrafficPlans.{IsWhole};
+ghost use Rattle.ledger_model.specs.PlanLog.{device_counts as counts_of_devices, lane_counts as counts_of_lanes, log_of_plan};
+ghost use Rattle.cluster_core.specs.Counts.{filled};
+ghost use Rattle.cluster_core.specs.PlanSteps.{HasReplayed};
 ghost use Rattle.script_plan.specs.Scripts.{plan_in};
-ghost use Rattle.replay_command.specs.ReplaySteps.{HasReplayed, filled};
-ghost use Rattle.replay_command.specs.Replays.{device_counts as counts_of_devices, lane_counts as counts_of_lanes, log_of_plan};
 ghost use Rattle.trace_command.specs.Lines.{ending};
 ghost use Rattle.trace_command.specs.Trace.{trace_start, trace_text as text_of_plan, with_line};
 
@@ -14,9 +15,7 @@ use crate::ending::push_ending;
 use crate::head::push_head;
 use crate::lines::push_step_line;
 use crate::writes::WriteNumbers;
-use cluster_core::Cluster;
-use replay_command::replay::{device_counts, lane_counts};
-use replay_command::steps::{KeepsAnswers, make_steps};
+use cluster_core::{Cluster, KeepsAnswers, device_counts, lane_counts, make_steps};
 use script_plan::Script;
 use std::alloc::{AllocError, Global};
 use std::marker::Model;
@@ -118,7 +117,7 @@ fn push_counts(
         (filled (counts_of_lanes (plan_in script.now) (log_of_plan (plan_in script.now))))
         (counts_of_devices (plan_in script.now) (log_of_plan (plan_in script.now)))) }
 {
-    let lanes = lane_counts(alloc, script, cluster)?;
-    let devs = device_counts(alloc, script, cluster)?;
+    let lanes = lane_counts(alloc, &script.declared, cluster)?;
+    let devs = device_counts(alloc, &script.declared, cluster)?;
     push_ending(text, &script.declared, &lanes, &devs)
 }

@@ -6,10 +6,10 @@ use Rattle.pair_model.specs.DeclaredPlans.{IsPermitted}
 use Rattle.pair_model.specs.Switches.{IsMakeable}
 use Rattle.traffic_plan.specs.Load.{LoadGiven, frames_given, lines_of_frame, load_of, plan_of}
 use Rattle.traffic_plan.proofs.Facade.{frames_more, lines_permitted, load_is_whole}
-use Rattle.replay_command.specs.ReplaySteps.{HasKept, with_blocked}
+use Rattle.cluster_core.specs.PlanSteps.{HasKept}
+use Rattle.replay_command.specs.Replays.{with_blocked}
 use Rattle.replay_command.proofs.BlockedAnswers.{blocked_counted, blocked_in}
-use Rattle.replay_command.proofs.PermittedSteps.{steps_permitted}
-use Rattle.replay_command.proofs.StepsMade.{kept_both, length-answers}
+use Rattle.cluster_core.proofs.Facade.{kept_both, length-answers, steps_permitted}
 use Rattle.replay_command.proofs.load.count_blocked.Goals as goal
 
 -- the steps of the next frame

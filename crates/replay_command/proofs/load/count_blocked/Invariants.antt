@@ -1,7 +1,8 @@
 use Rattle.std.proofs.Common.{◌≡◌, []}
 use Rattle.std.specs.List.{flat_map, range_with_len}
 use Rattle.traffic_plan.specs.Load.{frames_given, lines_of_frame, load_of}
-use Rattle.replay_command.specs.ReplaySteps.{HasKept, with_blocked}
+use Rattle.cluster_core.specs.PlanSteps.{HasKept}
+use Rattle.replay_command.specs.Replays.{with_blocked}
 use Rattle.replay_command.proofs.load.count_blocked.Given as goal
 
 abbrev pub invariant-loop : goal.invariant-loop

@@ -1,7 +1,7 @@
 use Rattle.std.proofs.Common.{refl}
 use Rattle.traffic_plan.specs.Load.{load_of}
 use Rattle.step_kinds.specs.declared.names.Side.TheVariants.{A, B}
-use Rattle.replay_command.specs.Replays.{steps_of}
+use Rattle.ledger_model.specs.PlanLog.{steps_of}
 use Rattle.replay_command.proofs.Reports.{load_lane_known, summary_same}
 use Rattle.replay_command.proofs.load.load_text.Goals as goal
 

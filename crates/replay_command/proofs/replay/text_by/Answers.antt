@@ -1,8 +1,9 @@
 use Rattle.std.proofs.Common.{◌≡◌, ◌∙◌, ◌++◌, [], ℕ, List, ap, sym}
 use Rattle.ledger_model.specs.Log.{Answered}
 use Rattle.script_plan.specs.Scripts.{plan_in}
-use Rattle.replay_command.specs.Replays.{answers_text, log_of_plan}
-use Rattle.replay_command.proofs.PermittedSteps.{steps_permitted}
+use Rattle.ledger_model.specs.PlanLog.{log_of_plan}
+use Rattle.replay_command.specs.Replays.{answers_text}
+use Rattle.cluster_core.proofs.Facade.{steps_permitted}
 use Rattle.replay_command.proofs.Reports.{answers_kept, replay_text_is}
 use Rattle.replay_command.proofs.replay.text_by.Goals as goal
 

@@ -1,7 +1,7 @@
 use Rattle.std.proofs.Common.{◌≡◌, ◌∙◌, ◌++◌, [], List, refl, ap, sym}
 use Rattle.ledger_model.specs.Log.{Answered}
 use Rattle.step_kinds.specs.AnsweredSteps.{AnsweredStep}
-use Rattle.replay_command.specs.Replays.{answered_steps, log_of_plan}
+use Rattle.ledger_model.specs.PlanLog.{answered_steps, log_of_plan}
 use Rattle.trace_command.specs.Lines.{step_lines}
 use Rattle.trace_command.specs.Writes.{writes_start}
 use Rattle.trace_command.specs.Head.{head}
@@ -9,7 +9,7 @@ use Rattle.trace_command.specs.Trace.{Traced}
 use Rattle.trace_command.proofs.Traces.{lines_kept}
 use Rattle.trace_command.proofs.WholeTraces.{trace_is}
 use Rattle.script_plan.specs.Scripts.{plan_in}
-use Rattle.replay_command.proofs.Facade.{steps_permitted}
+use Rattle.cluster_core.proofs.Facade.{steps_permitted}
 use Rattle.trace_command.proofs.trace.text_by.Goals as goal
 
 pub make_steps-requires : goal.make_steps-requires

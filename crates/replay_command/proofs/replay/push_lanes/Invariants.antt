@@ -1,7 +1,0 @@
-use Rattle.std.specs.List.{flat_map}
-use Rattle.replay_command.specs.ReplaySteps.{AddsCounts, lanes_from}
-use Rattle.replay_command.specs.Replays.{sessions_of_lane}
-use Rattle.replay_command.proofs.replay.push_lanes.Given as goal
-
-abbrev pub invariant-loop-queue : goal.invariant-loop-queue
-invariant-loop-queue l = AddsCounts l.cluster l.fn.counts.items l.counts.items (λ plan log. flat_map (sessions_of_lane plan log) (lanes_from l.pair l.from l.queue))
