@@ -7,9 +7,7 @@ mod runs;
 mod sessions;
 mod test_input;
 
-use faults::tell_faults;
-use runs::has_passed;
-use std::alloc::Global;
+use runs::Program;
 use std::io;
 use std::io::{BufRead, BufReader};
 use std::sync::Wait;
@@ -18,34 +16,32 @@ use test_input::{Test, Way, read_test};
 
 fn main(rt: HostRuntime) -> io::Result<()> {
     let mut input = BufReader::new(rt.alloc(), rt.reader())?;
-    tell_tests(&rt, rt.alloc(), &mut input)
+    let program = Program {
+        rt: &rt,
+        alloc: rt.alloc(),
+    };
+    program.tell_tests(&mut input)
 }
 
-// What comes of each test, as long as there is one.
-fn tell_tests<R: Print + Threads + Wait + Sync, I: BufRead>(
-    rt: &R,
-    alloc: Global,
-    input: &mut I,
-) -> io::Result<()> {
-    for _ in 0..u64::MAX {
-        match read_test(alloc, input)? {
-            Some(test) => tell_test(rt, alloc, &test)?,
-            None => break,
+impl<R: Print + Threads + Wait + Sync> Program<'_, R> {
+    // What comes of each test, as long as there is one.
+    fn tell_tests<I: BufRead>(&self, input: &mut I) -> io::Result<()> {
+        for _ in 0..u64::MAX {
+            match read_test(self.alloc, input)? {
+                Some(test) => self.tell_test(&test)?,
+                None => break,
+            }
         }
+        Ok(())
     }
-    Ok(())
-}
 
-// Whether a test has passed, and what else is told of it.
-fn tell_test<R: Print + Threads + Wait + Sync>(
-    rt: &R,
-    alloc: Global,
-    test: &Test,
-) -> io::Result<()> {
-    tell(rt, has_passed(rt, alloc, test)?, test.name.as_str())?;
-    match test.way {
-        Way::Once | Way::Pieces => Ok(()),
-        Way::Streams => tell_faults(rt, alloc, test),
+    // Whether a test has passed, and what else is told of it.
+    fn tell_test(&self, test: &Test) -> io::Result<()> {
+        tell(self.rt, self.passes(test)?, test.name.as_str())?;
+        match test.way {
+            Way::Once | Way::Pieces => Ok(()),
+            Way::Streams => self.tell_faults(test),
+        }
     }
 }
 

@@ -11,6 +11,13 @@ use std::thread::Threads;
 /// More bytes than any text has.
 const ROOM: usize = 8_000_000;
 
+/// The program, with the handle and the memory that its runs take.
+#[derive(Drop)]
+pub struct Program<'a, R> {
+    pub rt: &'a R,
+    pub alloc: Global,
+}
+
 /// How the streams of a run are: the bytes that each call gives or takes, and the calls that fail.
 #[derive(Clone, Copy)]
 pub struct Streams {
@@ -37,59 +44,46 @@ pub struct End {
     pub text: Vec<u8>,
 }
 
-/// Whether the program answers a test's status and writes what is wanted, in whatever pieces its input and its output
-/// come. It may be out of memory.
-pub fn has_passed<R: Threads + Wait + Sync>(
-    rt: &R,
-    alloc: Global,
-    test: &Test,
-) -> Result<bool, AllocError> {
-    match test.way {
-        Way::Once => passes_in_pieces(rt, alloc, test, ROOM),
-        Way::Pieces | Way::Streams => {
-            let mut passed = true;
-            for piece in [1usize, 7, 8, ROOM] {
-                passed = passed && passes_in_pieces(rt, alloc, test, piece)?;
+impl<R: Threads + Wait + Sync> Program<'_, R> {
+    /// Whether the program answers a test's status and writes what is wanted, in whatever pieces its input and its
+    /// output come. It may be out of memory.
+    pub fn passes(&self, test: &Test) -> Result<bool, AllocError> {
+        match test.way {
+            Way::Once => self.passes_in_pieces(test, ROOM),
+            Way::Pieces | Way::Streams => {
+                let mut passed = true;
+                for piece in [1usize, 7, 8, ROOM] {
+                    passed = passed && self.passes_in_pieces(test, piece)?;
+                }
+                Ok(passed)
             }
-            Ok(passed)
         }
     }
-}
 
-fn passes_in_pieces<R: Threads + Wait + Sync>(
-    rt: &R,
-    alloc: Global,
-    test: &Test,
-    piece: usize,
-) -> Result<bool, AllocError> {
-    let end = run(
-        rt,
-        alloc,
-        &test.words,
-        &test.script,
-        Streams::of_pieces(piece),
-    )?;
-    Ok(end.status == test.status && has_all(alloc, &end.text, &test.wanted)?)
-}
+    fn passes_in_pieces(&self, test: &Test, piece: usize) -> Result<bool, AllocError> {
+        let end = self.run(&test.words, &test.script, Streams::of_pieces(piece))?;
+        Ok(end.status == test.status && has_all(self.alloc, &end.text, &test.wanted)?)
+    }
 
-/// Runs the program on these words and this input. It may be out of memory.
-pub fn run<R: Threads + Wait + Sync>(
-    rt: &R,
-    alloc: Global,
-    words: &[String],
-    script: &[u8],
-    streams: Streams,
-) -> Result<End, AllocError> {
-    let bytes = Vec::from_slice(alloc, script)?;
-    let failing_reads = calls_of(alloc, streams.read_fails)?;
-    let failing_writes = calls_of(alloc, streams.write_fails)?;
-    let mut source = MemorySource::new(bytes, streams.piece.max(1), failing_reads);
-    let mut sink = MemorySink::new(alloc, ROOM, streams.piece, failing_writes)?;
-    let status = run_program(rt, alloc, words, &mut source, &mut sink, &NoGate).status;
-    Ok(End {
-        status,
-        text: Vec::from_slice(alloc, sink.held())?,
-    })
+    /// Runs it on these words and this input. It may be out of memory.
+    pub fn run(
+        &self,
+        words: &[String],
+        script: &[u8],
+        streams: Streams,
+    ) -> Result<End, AllocError> {
+        let Program { rt, alloc } = *self;
+        let bytes = Vec::from_slice(alloc, script)?;
+        let failing_reads = calls_of(alloc, streams.read_fails)?;
+        let failing_writes = calls_of(alloc, streams.write_fails)?;
+        let mut source = MemorySource::new(bytes, streams.piece.max(1), failing_reads);
+        let mut sink = MemorySink::new(alloc, ROOM, streams.piece, failing_writes)?;
+        let status = run_program(rt, alloc, words, &mut source, &mut sink, &NoGate).status;
+        Ok(End {
+            status,
+            text: Vec::from_slice(alloc, sink.held())?,
+        })
+    }
 }
 
 fn calls_of(alloc: Global, call: Option<u64>) -> Result<Vec<u64>, AllocError> {
