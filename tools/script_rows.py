@@ -1,4 +1,4 @@
-"""Rows of scripts for `worked_scripts`, made by a second writing of the rules.
+"""Rows of scripts, made by a second writing of the rules.
 
 For each kind of line: the line alone, each single fault, each two faults that can come together and whose causes
 differ, and words in other spellings, among them numbers at the ends of their ranges. Then come random scripts. Each

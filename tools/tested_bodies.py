@@ -22,7 +22,7 @@ from typing import Iterator, Optional
 TOP = Path(__file__).resolve().parent.parent
 LIST = TOP / "tools" / "tested_bodies.txt"
 # The crates whose programs are tests themselves, and what `rt try` is told of each.
-PROGRAMS = {"thread_tests": ["--test"], "worked_scripts": [], "call_rows": []}
+PROGRAMS = {"thread_tests": ["--test"], "worked_scripts": [], "examples": []}
 # What the files of tools/tests ask, and the words with which it runs for some seconds.
 PROGRAM, LOAD = "ntbsim", ["--", "load", "1", "2000"]
 # The byte behind the mark says which body is chosen, from 1 on.

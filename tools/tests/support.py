@@ -3,12 +3,16 @@
 from __future__ import annotations
 
 import functools
+import importlib.machinery
+import importlib.util
 import os
 import shutil
 import subprocess
+import sys
 import tempfile
 import unittest
 from pathlib import Path
+from types import ModuleType
 from typing import Mapping, Optional, Sequence, Union
 
 from ntbview.common import Script
@@ -35,6 +39,18 @@ def is_proved(path: str) -> bool:
     words = ["sh", "-c", 'top=$1; . "$1/tools/program.sh"; printf "program %s" "$(sum <"$2")"', "sh", str(TOP), path]
     asked = subprocess.run(words, stdout=subprocess.PIPE, check=True).stdout
     return record.is_file() and record.read_bytes().split(b"\n", 1)[0] == asked
+
+
+def tool_module(name: str) -> ModuleType:
+    """A tool whose file has no ending, as a module."""
+    loader = importlib.machinery.SourceFileLoader(name.replace("-", "_"), str(TOP / "tools" / name))
+    spec = importlib.util.spec_from_loader(loader.name, loader)
+    if spec is None:
+        raise AssertionError(f"{name} can't be loaded")
+    module = importlib.util.module_from_spec(spec)
+    sys.modules[loader.name] = module
+    loader.exec_module(module)
+    return module
 
 
 def trace_of(script_text: str) -> tuple[Script, Trace]:

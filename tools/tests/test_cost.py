@@ -3,8 +3,6 @@
 from __future__ import annotations
 
 import contextlib
-import importlib.machinery
-import importlib.util
 import io
 import os
 import shutil
@@ -12,7 +10,6 @@ import subprocess
 import sys
 import unittest
 from pathlib import Path
-from types import ModuleType
 from typing import Iterator, Optional
 
 import bench_support
@@ -20,7 +17,7 @@ from bench_scripts import SCRIPTS, two_frames
 from bench_support import COST, MEMORY, NUMBER, SECONDS, Cost, Limits, NoFigure, cost_of, figure_in, instructions
 from bench_support import cell_in, tables_in, tables_of
 from tests.answers import wanted
-from tests.support import TOP, Folder, is_proved, program
+from tests.support import TOP, Folder, is_proved, program, tool_module
 
 TOOLS = TOP / "tools"
 MADE_UP = """# Costs
@@ -45,18 +42,6 @@ Words.
 | `small` | 495 | 64,000 | 9.9 times |
 | zero | 0 | – | – |
 """
-
-
-def bench_of(name: str) -> ModuleType:
-    """A bench as a module."""
-    loader = importlib.machinery.SourceFileLoader(name.replace("-", "_"), str(TOOLS / name))
-    spec = importlib.util.spec_from_loader(loader.name, loader)
-    if spec is None:
-        raise AssertionError(f"{name} can't be loaded")
-    module = importlib.util.module_from_spec(spec)
-    sys.modules[loader.name] = module
-    loader.exec_module(module)
-    return module
 
 
 class Reader(Folder):
@@ -192,8 +177,8 @@ class Twice(Folder):
 def limits_over(factor: float) -> Iterator[tuple[str, Limits]]:
     """The limits of each row of each bench, over costs so large, which are nothing where the factor is 0."""
     large, size = Cost(1e4 * factor, 1e4 * factor, int(1e8 * factor)), int(1e11 * factor)
-    replay, explore, run = bench_of("bench-replay"), bench_of("bench-explore"), bench_of("bench-run")
-    queue, memory, stream, view = map(bench_of, ("bench-queue", "bench-memory", "bench-stream", "bench-view"))
+    replay, explore, run = tool_module("bench-replay"), tool_module("bench-explore"), tool_module("bench-run")
+    queue, memory, stream, view = map(tool_module, ("bench-queue", "bench-memory", "bench-stream", "bench-view"))
     for name in SCRIPTS:
         yield name, replay.limits_of(name, large, int(1e12 * factor) or 1, 1)
     for name in queue.ROWS:
@@ -233,13 +218,13 @@ class Benches(Folder):
 
     def test_quadratic(self) -> None:
         """Twelve times the instructions of a tenth are the most, whatever the figures."""
-        limits_of = bench_of("bench-replay").limits_of
+        limits_of = tool_module("bench-replay").limits_of
         self.assertEqual(limits_of("frames", Cost(0, 0, 0), 1200, 100).broken, [])
         self.assertEqual(limits_of("frames", Cost(0, 0, 0), 1210, 100).broken, ["12.1 times a tenth, at most 12"])
 
     def test_own_limits(self) -> None:
         """A stream has its limits beside a run, and a view those that it is given."""
-        stream, view = bench_of("bench-stream").limits_of, bench_of("bench-view")
+        stream, view = tool_module("bench-stream").limits_of, tool_module("bench-view")
         run, ends = Cost(0.01, 0, 9000), Cost(0.03, 0, 9000)
         self.assertEqual(stream(1024, run, ends, Cost(0, 0, 18000)).broken, [])
         self.assertIn("at most 3 times", " ".join(stream(1024, run, Cost(0.04, 0, 9000), ends).broken))
@@ -249,7 +234,7 @@ class Benches(Folder):
 
     def test_said(self) -> None:
         """What the small programs print is read: the times of lanes by their kinds, and those of the queue."""
-        lanes, took = bench_of("bench-run").lanes, bench_of("bench-queue").TOOK
+        lanes, took = tool_module("bench-run").lanes, tool_module("bench-queue").TOOK
         kinds = ("rtrb", "run_plan", "steps alone")
         said = [f"{kind}, {ring} entries: 9 frames a second, {{}} us\n" for kind in kinds for ring in (1024, 4)]
         quick, slow = "".join(said).format(*6 * [1000]), "".join(said).format(*6 * [1000000])

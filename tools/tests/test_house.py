@@ -17,7 +17,7 @@ from tests.support import TOP, Folder
 TOOLS = TOP / "tools"
 Function = Union[ast.FunctionDef, ast.AsyncFunctionDef]
 MOST_FUNCTION, MOST_FRONT = 40, 3000
-TYPED_TOOLS = ("check", "wrong-bodies", "wrong-definitions", "edit_files.py", "tested_bodies.py")
+TYPED_TOOLS = ("check", "wrong-bodies", "wrong-definitions", "worked-scripts", "edit_files.py", "tested_bodies.py")
 
 
 def tool(*words: str) -> subprocess.CompletedProcess[str]:
@@ -172,6 +172,80 @@ class Constants(Folder):
         self.write("crates/low/specs/Lib.antt", "most_queues = 2 ^ 4\nlast_queue = 2 ^ 4\nqueues = most_queues\n")
         told = "crates/low/specs/Lib.antt:2: last_queue is most_queues of crates/low/specs/Lib.antt"
         self.assertEqual(self.house("", ""), [told])
+
+
+class Worked(Folder):
+    """The files of the tests of worked_scripts, as tools/worked-scripts reads them."""
+
+    def setUp(self) -> None:
+        """Makes a folder for each of the three kinds of files, with a test in each."""
+        super().setUp()
+        for name in ("tools", "crates/worked_scripts/data/cases", "crates/worked_scripts/data/steps",
+                     "crates/worked_scripts/data/rows"):
+            (self.folder / name).mkdir(parents=True)
+        shutil.copy(TOOLS / "worked-scripts", self.folder / "tools")
+        self.data("cases/one.ntb", "ntb 1\n")
+        self.data("cases/one.want", "replay, status 0, over failing streams: It ends.\n== whole\nend\n")
+        self.data("steps/two.ntb", "ntb 1\nsteps\ntrain p\n")
+        self.data("steps/two.want", "replay, status 3, lines 2 to 3 9 times: About.\n# A note.\n== answers\n3 ok 1\n")
+        self.data("rows/all.rows", "# Rows.\n\nbegin\n    ntb 1\n\n"
+                                   "three: host \\x20{3 ab\\t}c => refused line 2 word 1 no\n"
+                                   "four => ok pairs 0\n    \\e\n    {2 \\n}host\n")
+
+    def data(self, name: str, content: str) -> None:
+        """Writes a file of tests."""
+        self.write(f"crates/worked_scripts/data/{name}", content)
+
+    def said(self, *words: str) -> tuple[int, str, str]:
+        """What the tool says: its status, and what it wrote."""
+        words = (str(self.folder / "tools" / "worked-scripts"), *words)
+        done = subprocess.run(words, capture_output=True, text=True, check=False)
+        return done.returncode, done.stdout, done.stderr
+
+    def test_written(self) -> None:
+        """Input and output are those of the files, and a change of one is told with its line."""
+        self.assertEqual(self.said("--write"), (0, "", ""))
+        crate = self.folder / "crates" / "worked_scripts"
+        self.assertEqual((crate / "stdin").read_bytes().split(b"\n"), [
+            b"one streams 0 replay script 1 6 whole 1 4", b"ntb 1", b"end",
+            b"two once 3 replay script 1 6 script 9 14 script 1 0 answers 1 7", b"ntb 1", b"steps", b"train p",
+            b"3 ok 1",
+            b"three once 3 check script 1 12 script 3 3 script 1 2 whole 1 25", b"ntb 1", b"host  ab\tc",
+            b"refused line 2 word 1 no",
+            b"four once 0 check script 1 7 script 2 1 script 1 5 whole 1 11", b"ntb 1", b"", b"", b"host",
+            b"ok pairs 0", b"",
+        ])
+        told = ("one", "failing-source", "failing-sink", "cut-script", "other-words", "input-too-long", "two", "three",
+                "four")
+        self.assertEqual((crate / "stdout").read_text(), "".join(f"passed: {name}\n" for name in told))
+        self.assertEqual(self.said(), (0, "", ""))
+        self.data("steps/two.ntb", "ntb 1\nsteps\ntrain q\n")
+        why = "not what the files give: tools/worked-scripts --write"
+        self.assertEqual(self.said(), (1, f"crates/worked_scripts/stdin:7: {why}\n", ""))
+
+    def test_forms(self) -> None:
+        """A file of another form is refused, with file and line."""
+        for name, content, found in (
+            ("cases/one.want", "replay status 0: It ends.\n== whole\nend\n", "cases/one.want:1: no head"),
+            ("cases/one.want", "replay, status 0: It ends.\n== all\nend\n", "cases/one.want:2: no kind of text"),
+            ("cases/one.want", "replay, status 0: It ends.\nend\n", "cases/one.want:2: neither a note"),
+            ("cases/one.want", "replay, status 0: It ends.\n== part\n", "cases/one.want:1: no text is wanted"),
+            ("cases/one.want", "load 1 1, status 0: It ends.\n== part\nend\n", "cases/one.want:1: 1 files of input"),
+            ("cases/one.want", "replay, status 0, lines 1 to 2 3 times: A.\n== part\nend\n", "one.want:1: no such"),
+            ("cases/five.ntb", "ntb 1\n", "cases/five.ntb:1: no file of answers"),
+            ("cases/one.ntb", "ntb 1", "cases/one.ntb:1: the last line has no end"),
+            ("rows/all.rows", "three: host => ok\n", "rows/all.rows:1: no row behind `begin`"),
+            ("rows/all.rows", "begin\nthree: host => ok 1\n    host b\n", "rows/all.rows:2: no row behind `begin`"),
+            ("rows/all.rows", "begin\nthree: \\q => ok 1\n", "rows/all.rows:2: an escape isn't one"),
+            ("rows/all.rows", "begin\none: host => ok 1\n", "rows:1: no name, or one that stands already: one"),
+            ("rows/all.rows", "begin\nOne: host => ok 1\n", "rows:1: no name, or one that stands already: One"),
+        ):
+            with self.subTest(found):
+                self.setUp()
+                self.data(name, content)
+                status, _, why = self.said("--write")
+                self.assertEqual(status, 1)
+                self.assertRegex(why, rf"crates/worked_scripts/data/\S*{re.escape(found)}")
 
 
 class Python(unittest.TestCase):

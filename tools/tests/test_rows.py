@@ -7,16 +7,19 @@ import sys
 import unittest
 from concurrent.futures import ThreadPoolExecutor
 
-from tests.support import TOP, program
+from tests.support import TOP, program, tool_module
 
 sys.path.insert(0, str(TOP / "tools"))
 
 from script_rows import Row, rows  # noqa: E402
+from script_rules import said_of  # noqa: E402
 
 # The seed of the random scripts, and how many come of it.
 SEED, RANDOM = 2027, 300
 # So many rows there are at least: who lost some of the generator's lines would test less without a word.
 LEAST = 2_500
+# And so many rows stand in files.
+LEAST_FILES = 2_000
 AT_ONCE = 4
 
 
@@ -51,6 +54,21 @@ class Rows(unittest.TestCase):
                 "badpair", "toomany", "badswitch", "badhex",
             },
         )
+
+
+class Files(unittest.TestCase):
+    """The rows of worked_scripts, which stand in files."""
+
+    def test_rules(self) -> None:
+        """The rules say of each script what its row says."""
+        worked = tool_module("worked-scripts")
+        made = worked.read_tests(TOP / worked.CRATE / "data")["rows"]
+        self.assertGreater(len(made), LEAST_FILES)
+        for row in made:
+            *script, answer = row.parts
+            with self.subTest(row.name):
+                said = said_of(b"".join(part.data * part.count for part in script))
+                self.assertEqual(f"{said}\n".encode(), answer.data)
 
 
 if __name__ == "__main__":

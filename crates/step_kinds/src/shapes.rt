@@ -7,7 +7,7 @@ ghost use Rattle.step_kinds.specs.Shapes.{
   answer_shape,
   ended,
   label_shape,
-  numbered,
+  named_number,
   seen_of,
   shown_end,
   with_entry,
@@ -211,11 +211,13 @@ impl Answer {
     pub fn bytes(&self) -> &[u8]
         ensures { result.now ≡ answer_bytes self.now }
     {
-        match self {
-            Answer::Delivered { frame, .. } => frame.bytes(),
-            Answer::Mem { bytes } => bytes.bytes(),
-            _ => &[],
+        if let Answer::Delivered { frame, .. } = self {
+            return frame.bytes();
         }
+        if let Answer::Mem { bytes } = self {
+            return bytes.bytes();
+        }
+        &[]
     }
 }
 
@@ -264,7 +266,7 @@ impl Label {
 // A number of 32 bits.
 #[inline(always)]
 fn short(name: NumberName, value: u32) -> NamedNumber
-    ensures { result ≡ numbered name value }
+    ensures { result ≡ named_number name value }
 {
     long(name, u64::from(value))
 }
@@ -272,7 +274,7 @@ fn short(name: NumberName, value: u32) -> NamedNumber
 // A number of 64 bits.
 #[inline(always)]
 fn long(name: NumberName, value: u64) -> NamedNumber
-    ensures { result ≡ numbered name value }
+    ensures { result ≡ named_number name value }
 {
     NamedNumber { name, value }
 }

@@ -1,83 +1,89 @@
 //! Runs of the program over memory.
 
-use crate::cases::{Case, Wanted};
 use crate::sessions::are_sessions;
-use io_edges::{MemorySink, MemorySource, NoGate, Sink, Source};
+use crate::test_input::{Kind, Test, Wanted, Way};
+use io_edges::{MemorySink, MemorySource, NoGate};
 use ntb_top::run_program;
 use std::alloc::{AllocError, Global};
 use std::sync::Wait;
 use std::thread::Threads;
 
 /// More bytes than any text has.
-const MOST_TEXT: usize = 1_000_000;
+const MOST_TEXT: usize = 8_000_000;
 
-/// Whether the program answers the case's status and writes its parts, in whatever pieces its input and its output
-/// come. The only error is running out of memory.
-pub fn gives_what_is_expected<R: Threads + Wait + Sync>(
-    rt: &R,
-    alloc: Global,
-    case: &Case,
-) -> Result<bool, AllocError> {
-    let mut passed = true;
-    for piece in [1usize, 7, 8, MOST_TEXT] {
-        passed = passed && gives_in_pieces(rt, alloc, case, piece)?;
+/// The program, with the handle and the memory that its runs take.
+#[derive(Drop)]
+pub struct Program<'a, R> {
+    pub rt: &'a R,
+    pub alloc: Global,
+}
+
+/// How the streams of a run are: the bytes that each call gives or takes, and the calls that fail.
+#[derive(Clone, Copy)]
+pub struct Streams {
+    pub piece: usize,
+    pub read_fails: Option<u64>,
+    pub write_fails: Option<u64>,
+}
+
+impl Streams {
+    /// Streams that never fail.
+    pub fn of_pieces(piece: usize) -> Streams {
+        Streams {
+            piece,
+            read_fails: None,
+            write_fails: None,
+        }
     }
-    Ok(passed)
 }
 
-fn gives_in_pieces<R: Threads + Wait + Sync>(
-    rt: &R,
-    alloc: Global,
-    case: &Case,
-    piece: usize,
-) -> Result<bool, AllocError> {
-    let mut source = source_of(alloc, &case.script, piece, None)?;
-    let mut sink = sink_of(alloc, piece, None)?;
-    gives_over(rt, alloc, case, &mut source, &mut sink)
+/// How the program ended: its status, and the text that it wrote.
+#[derive(Drop)]
+pub struct End {
+    pub status: u8,
+    pub text: Vec<u8>,
 }
 
-// Whether the program answers the case's status over these streams, and writes its parts.
-fn gives_over<R: Threads + Wait + Sync>(
-    rt: &R,
-    alloc: Global,
-    case: &Case,
-    source: &mut MemorySource,
-    sink: &mut MemorySink,
-) -> Result<bool, AllocError> {
-    let status = status_of(rt, alloc, case.command, source, sink)?;
-    Ok(status == case.status && are_there(alloc, sink.held(), &case.wanted)?)
-}
-
-// Whether all that is wanted stands in what was written.
-fn are_there(alloc: Global, written: &[u8], wanted: &[Wanted]) -> Result<bool, AllocError> {
-    let text = behind_line_feed(alloc, written)?;
-    are_in(alloc, &text, wanted)
-}
-
-// Whether all that is wanted stands in a text that is after a line feed.
-fn are_in(alloc: Global, text: &[u8], wanted: &[Wanted]) -> Result<bool, AllocError> {
-    let mut passed = true;
-    for one in wanted {
-        passed = passed && is_there(alloc, text, one)?;
+impl<R: Threads + Wait + Sync> Program<'_, R> {
+    /// Whether the program answers a test's status and writes what is wanted, in whatever pieces its input and its
+    /// output come. It may be out of memory.
+    pub fn passes(&self, test: &Test) -> Result<bool, AllocError> {
+        match test.way {
+            Way::Once => self.passes_in_pieces(test, MOST_TEXT),
+            Way::Pieces | Way::Streams => {
+                let mut passed = true;
+                for piece in [1usize, 7, 8, MOST_TEXT] {
+                    passed = passed && self.passes_in_pieces(test, piece)?;
+                }
+                Ok(passed)
+            }
+        }
     }
-    Ok(passed)
-}
 
-/// A source of these bytes that gives so many a call, of which one may fail. The only error is running out of memory.
-pub fn source_of(
-    alloc: Global,
-    script: &[u8],
-    piece: usize,
-    fails: Option<u64>,
-) -> Result<MemorySource, AllocError> {
-    let mut bytes = Vec::new(alloc);
-    bytes.extend_from_slice(script)?;
-    Ok(MemorySource::new(bytes, piece.max(1), calls_of(alloc, fails)?))
-}
+    fn passes_in_pieces(&self, test: &Test, piece: usize) -> Result<bool, AllocError> {
+        let end = self.run(&test.words, &test.script, Streams::of_pieces(piece))?;
+        Ok(end.status == test.status && has_all(self.alloc, &end.text, &test.wanted)?)
+    }
 
-/// A sink that takes so many bytes a call, of which one may fail. The only error is running out of memory.
-pub fn sink_of(alloc: Global, piece: usize, fails: Option<u64>) -> Result<MemorySink, AllocError> {
-    MemorySink::new(alloc, MOST_TEXT, piece, calls_of(alloc, fails)?)
+    /// Runs it on these words and this input. It may be out of memory.
+    pub fn run(
+        &self,
+        words: &[String],
+        script: &[u8],
+        streams: Streams,
+    ) -> Result<End, AllocError> {
+        let Program { rt, alloc } = *self;
+        let bytes = Vec::from_slice(alloc, script)?;
+        let failing_reads = calls_of(alloc, streams.read_fails)?;
+        let failing_writes = calls_of(alloc, streams.write_fails)?;
+        let mut source = MemorySource::new(bytes, streams.piece.max(1), failing_reads);
+        let mut sink = MemorySink::new(alloc, MOST_TEXT, streams.piece, failing_writes)?;
+        let status = run_program(rt, alloc, words, &mut source, &mut sink, &NoGate).status;
+        Ok(End {
+            status,
+            text: Vec::from_slice(alloc, sink.held())?,
+        })
+    }
 }
 
 fn calls_of(alloc: Global, call: Option<u64>) -> Result<Vec<u64>, AllocError> {
@@ -88,37 +94,63 @@ fn calls_of(alloc: Global, call: Option<u64>) -> Result<Vec<u64>, AllocError> {
     Ok(calls)
 }
 
-/// The status of the program on one word. The only error is running out of memory.
-pub fn status_of<R: Threads + Wait + Sync, S: Source, K: Sink>(
-    rt: &R,
-    alloc: Global,
-    word: &str,
-    source: &mut S,
-    sink: &mut K,
-) -> Result<u8, AllocError> {
-    let mut words = Vec::new(alloc);
-    words.push(String::from_str(alloc, word)?)?;
-    Ok(run_program(rt, alloc, &words, source, sink, &NoGate).status)
+// Whether a text has all that is wanted of it.
+fn has_all(alloc: Global, text: &[u8], wanted: &[Wanted]) -> Result<bool, AllocError> {
+    let mut passed = true;
+    for one in wanted {
+        passed = passed && has(alloc, text, one)?;
+    }
+    Ok(passed)
 }
 
-// A text after a line feed, so that each of its lines is.
-fn behind_line_feed(alloc: Global, text: &[u8]) -> Result<Vec<u8>, AllocError> {
-    let mut all = Vec::new(alloc);
-    all.push(b'\n')?;
-    all.extend_from_slice(text)?;
-    Ok(all)
-}
-
-// Whether what is wanted stands in a text that is after a line feed.
-fn is_there(alloc: Global, text: &[u8], wanted: &Wanted) -> Result<bool, AllocError> {
-    match wanted {
-        Wanted::Lines(lines) => Ok(has_lines(text, lines)),
-        Wanted::Whole(whole) => Ok(text.strip_prefix(b"\n".as_slice()) == Some(whole.as_slice())),
-        Wanted::Sessions(lanes) => are_sessions(alloc, text, lanes),
+fn has(alloc: Global, text: &[u8], wanted: &Wanted) -> Result<bool, AllocError> {
+    let (Ok(came), Ok(due)) = (std::str::from_utf8(text), std::str::from_utf8(&wanted.text)) else {
+        return Ok(false);
+    };
+    match wanted.kind {
+        Kind::Whole => Ok(came == due),
+        Kind::Part => Ok(has_lines(text, &wanted.text)),
+        Kind::Answers => has_answers(alloc, came, due),
+        Kind::Ending => Ok(has_ending(came, due)),
+        Kind::Sessions => are_sessions(alloc, came, due),
     }
 }
 
-// Whether these lines stand in a text, one after the other.
+// Whether these lines stand in a text, one after the other, from the start of a line on.
 fn has_lines(text: &[u8], lines: &[u8]) -> bool {
-    !lines.is_empty() && text.windows(lines.len()).any(|window| window == lines)
+    text.starts_with(lines)
+        || text.windows(lines.len() + 1).any(|window| window.first() == Some(&b'\n')
+            && window.ends_with(lines))
+}
+
+// Whether all lines of a text whose first words stand at the head of a wanted line are the wanted ones.
+fn has_answers(alloc: Global, text: &str, wanted: &str) -> Result<bool, AllocError> {
+    let numbers: Vec<&str> = wanted.lines().map(first_word).collect(alloc)?;
+    let mut left = wanted.lines();
+    let mut passed = true;
+    for line in text.lines() {
+        if numbers.contains(&first_word(line)) {
+            passed = passed && left.next() == Some(line);
+        }
+    }
+    Ok(passed && left.next().is_none())
+}
+
+// Whether all lines of a text that begin with no number, but for `end`, are the wanted ones.
+fn has_ending(text: &str, wanted: &str) -> bool {
+    let mut left = wanted.lines();
+    let mut passed = true;
+    for line in text.lines() {
+        if line != "end" && first_word(line).parse::<u32>().is_err() {
+            passed = passed && left.next() == Some(line);
+        }
+    }
+    passed && left.next().is_none()
+}
+
+fn first_word(line: &str) -> &str {
+    match line.split_once(' ') {
+        Some((word, _)) => word,
+        None => line,
+    }
 }

@@ -28,12 +28,9 @@ struct LaneSeen {
 }
 
 /// Whether a text is that of a run whose lanes come to what these lines say. Each line has the pair, the side, the
-/// queue, the number of sessions, and the number and the length of the frames of the lane's flood. The only error is
-/// running out of memory.
-pub fn are_sessions(alloc: Global, text: &[u8], lanes: &[u8]) -> Result<bool, AllocError> {
-    let (Ok(text), Ok(lanes)) = (std::str::from_utf8(text), std::str::from_utf8(lanes)) else {
-        return Ok(false);
-    };
+/// queue, the number of sessions, and the number and the length of the frames of the lane's flood. It may be
+/// out of memory.
+pub fn are_sessions(alloc: Global, text: &str, lanes: &str) -> Result<bool, AllocError> {
     let mut passed = text.ends_with("\nend\n");
     for lane in lanes.lines() {
         let words: Vec<&str> = lane.split(' ').collect(alloc)?;

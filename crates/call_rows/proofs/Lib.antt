@@ -1,2 +1,0 @@
-mod OneByte
-mod Queues

@@ -1,5 +1,0 @@
-use Rattle.script_text.proofs.Facade.{plan_is_whole}
-use Rattle.example_cluster.proofs.push_reply.Goals as goal
-
-pub push_answers-requires : goal.push_answers-requires
-push_answers-requires c = plan_is_whole c.args.script.now c.in-Ok.plan c.in-Ok.ensures

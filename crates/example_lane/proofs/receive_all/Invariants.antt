@@ -1,6 +1,0 @@
--- The end stands at its lane's table.
-use Rattle.std.proofs.Common.{◌≡◌}
-use Rattle.example_lane.proofs.receive_all.Given as goal
-
-abbrev pub invariant-loop : goal.invariant-loop
-invariant-loop l = l.end.lane ≡ l.fn.end.lane

@@ -1,0 +1,3 @@
+mod OneByte
+pub mod PlanSteps
+mod Queues
