@@ -237,6 +237,7 @@ class Worked(Folder):
             ("rows/all.rows", "three: host => ok\n", "rows/all.rows:1: no row behind `begin`"),
             ("rows/all.rows", "begin\nthree: host => ok 1\n    host b\n", "rows/all.rows:2: no row behind `begin`"),
             ("rows/all.rows", "begin\nthree: \\q => ok 1\n", "rows/all.rows:2: an escape isn't one"),
+            ("rows/all.row", "begin\nfive: host => ok 1\n", "rows/all.row:1: no file of rows"),
             ("rows/all.rows", "begin\none: host => ok 1\n", "rows:1: no name, or one that stands already: one"),
             ("rows/all.rows", "begin\nOne: host => ok 1\n", "rows:1: no name, or one that stands already: One"),
         ):

@@ -27,7 +27,7 @@ pub struct Streams {
 }
 
 impl Streams {
-    /// Streams that never fail.
+    /// Streams without an error.
     pub fn of_pieces(piece: usize) -> Streams {
         Streams {
             piece,
