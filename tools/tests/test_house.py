@@ -126,6 +126,35 @@ class Bound(Folder):
             self.write("tools/more", "")
 
 
+class Crates(Folder):
+    """How many crates there are, and how long a chain of them is."""
+
+    def house(self, listed: str) -> tuple[int, list[str]]:
+        """The status of tools/house of these crates, and what it finds."""
+        (self.folder / "tools").mkdir(exist_ok=True)
+        shutil.copy(TOOLS / "house", self.folder / "tools")
+        self.write("crates.txt", listed)
+        subprocess.run(["git", "init", "-q"], cwd=self.folder, check=True)
+        words = [str(self.folder / "tools" / "house"), "crates"]
+        done = subprocess.run(words, capture_output=True, text=True, check=False)
+        *found, last = done.stdout.splitlines()
+        self.assertEqual(last, f"crates: {len(found)} found, 0 allowed by tools/house_crates.txt")
+        return done.returncode, found
+
+    def test_number(self) -> None:
+        """51 crates are allowed, and not 52."""
+        lines = [f"crate_{number}:\n" for number in range(51)]
+        self.assertEqual(self.house("".join(lines)), (0, []))
+        self.assertEqual(self.house("".join([*lines, "more:\n"])), (1, ["crates.txt:1: 52 crates, and at most 51 may stand here"]))
+
+    def test_chain(self) -> None:
+        """A chain of 13 crates is allowed, and not one of 14. Libraries of the kit don't count."""
+        lines = ["crate_1: hex\n", *(f"crate_{number}: hex crate_{number - 1}\n" for number in range(2, 14))]
+        self.assertEqual(self.house("".join(lines)), (0, []))
+        told = "crates.txt:14: last ends a chain of 14 crates, at most 13 may be"
+        self.assertEqual(self.house("".join([*lines, "last: crate_1 crate_13\n"])), (1, [told]))
+
+
 class Constants(Folder):
     """One constant and one definition for each number."""
 

@@ -24,55 +24,32 @@ pub enum StepPart {
 pub fn part_of(step: &Step) -> StepPart
     ensures { result ≡ part_by_step step.now }
 {
-    match step {
-        Step::Relay { switch, port, .. } => StepPart::Relays {
-            switch: *switch,
-            port: *port,
-        },
-        Step::Xnext {
-            pair,
-            side,
-            queue,
-            ..
-        } => StepPart::Sends {
-            own: LaneName {
-                pair: *pair,
-                from: *side,
-                queue: *queue,
-            },
-        },
-        Step::Copy { pair, side, queue } => StepPart::Copies {
-            own: LaneName {
-                pair: *pair,
-                from: *side,
-                queue: *queue,
-            },
-        },
-        Step::Enable { .. }
-        | Step::Train { .. }
-        | Step::Break { .. }
-        | Step::DropDone { .. }
-        | Step::Clean { .. }
-        | Step::Offer { .. }
-        | Step::Check { .. }
-        | Step::Ready { .. }
-        | Step::Join { .. }
-        | Step::Begin { .. }
-        | Step::QpDown { .. }
-        | Step::Xbegin { .. }
-        | Step::Post { .. }
-        | Step::Land { .. }
-        | Step::Look { .. }
-        | Step::Clear { .. }
-        | Step::Ack { .. }
-        | Step::Wake { .. }
-        | Step::Irq { .. }
-        | Step::Mask { .. }
-        | Step::Unmask { .. }
-        | Step::Spad { .. }
-        | Step::Poke { .. }
-        | Step::ShowMem { .. }
-        | Step::ShowPad { .. }
-        | Step::ShowQueue { .. } => StepPart::OnBridges,
+    if let Step::Relay { switch, port, .. } = *step {
+        return StepPart::Relays { switch, port };
     }
+    if let Step::Xnext {
+        pair,
+        side,
+        queue,
+        ..
+    } = *step
+    {
+        return StepPart::Sends {
+            own: LaneName {
+                pair,
+                from: side,
+                queue,
+            },
+        };
+    }
+    if let Step::Copy { pair, side, queue } = *step {
+        return StepPart::Copies {
+            own: LaneName {
+                pair,
+                from: side,
+                queue,
+            },
+        };
+    }
+    StepPart::OnBridges
 }
