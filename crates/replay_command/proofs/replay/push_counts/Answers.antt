@@ -4,12 +4,16 @@ use Rattle.replay_command.proofs.Reports.{devices_known, ending_added, lanes_kno
 use Rattle.replay_command.proofs.replay.push_counts.Goals as goal
 
 pub push_ending-requires : goal.push_ending-requires
-push_ending-requires c = record {
-  known_pairs = lanes_known (plan_in c.args.script.now) _ (c.deref.ensures.value ∙ c.in_ok-lanes.ensures);
-  all_devices = devices_known (plan_in c.args.script.now) _ (c.deref-2.ensures.value ∙ c.in_ok-devs.ensures);
-}
+push_ending-requires c =
+    let plan = plan_in c.args.script.now in
+    record {
+      known_pairs = lanes_known plan _ (c.deref.ensures.value ∙ c.in_ok-lanes.ensures plan plan.steps c.requires.made);
+      all_devices = devices_known plan _ (c.deref-2.ensures.value ∙ c.in_ok-devs.ensures plan plan.steps c.requires.made);
+    }
 
 pub returns : goal.returns
 returns c =
-    ending_added (plan_in c.args.script.now) c.deref.result.now c.deref-2.result.now c.args.text.now.items c.push_ending.new.text.items c.push_ending.result
-    (c.deref.ensures.value ∙ c.in_ok-lanes.ensures) (c.deref-2.ensures.value ∙ c.in_ok-devs.ensures) c.push_ending.ensures
+    let plan = plan_in c.args.script.now in
+    ending_added plan c.deref.result.now c.deref-2.result.now c.args.text.now.items c.push_ending.new.text.items c.push_ending.result
+    (c.deref.ensures.value ∙ c.in_ok-lanes.ensures plan plan.steps c.requires.made) (c.deref-2.ensures.value ∙ c.in_ok-devs.ensures plan plan.steps c.requires.made)
+    c.push_ending.ensures

@@ -23,7 +23,7 @@ returns c =
     let made = c.in_ok-make_steps.ensures.kept plan [] c.requires.made in
     let answers : List Answered = made.answers in
     let text : c.in_ok-text.text.items ≡ answers_text script.steps (log_of_plan plan) =
-    c.in_ok-text.ensures ∙ made.kept ∙ answers_kept script.steps answers c.new-lines.result
-    ∙ ap (λ (before : List ℕ). before ++ answers_text script.steps answers) c.new-lines.ensures
+    c.in_ok-text.ensures ∙ c.report.view_is ∙ made.kept ∙ answers_kept script.steps answers c.new.result
+    ∙ ap (λ (before : List ℕ). before ++ answers_text script.steps answers) c.new.ensures
     ∙ ap (answers_text script.steps) (sym made.log) in
     replay_text_is plan _ _ text c.in_ok-push_counts.ensures
