@@ -1,9 +1,9 @@
 -- The texts of answers: a word, and then its numbers and bytes. Numbers are decimal, bytes lower-case hexadecimal.
-use Rattle.std.specs.Prelude.{ℕ, List, ◌∷◌, ◌++◌, Option, Some, None, codes}
+use Rattle.std.specs.Prelude.{ℕ, List, [], ◌∷◌, ◌++◌, Option, Some, None, codes}
 use Rattle.hex.specs.Hex.{encode_lower}
 use Rattle.pair_model.specs.declared.LinkRefusal.{LinkRefusal}
 use Rattle.pair_model.specs.declared.LinkRefusal.TheVariants.{NotDown, Dirty, NotEnabled, NotUp, NotClosing, SessionsSpent}
-use Rattle.report_text.specs.Texts.{with_one, with_two}
+use Rattle.report_text.specs.Texts.{numbers_text}
 use Rattle.read_path.specs.declared.steps.PathAnswer.{PathAnswer}
 use Rattle.read_path.specs.declared.steps.PathAnswer.TheVariants.{Wrote, Asked, Landed, Shown, Linked}
 use Rattle.read_path.specs.declared.steps.PostAnswer.{PostAnswer}
@@ -18,16 +18,16 @@ post_text PostOk = codes "ok"
 post_text PostLinkDown = codes "linkdown"
 
 abbrev pub read_text : ReadAnswer → List ℕ
-read_text (Posted number) = with_one (codes "read") number
+read_text (Posted number) = codes "read" ++ numbers_text (number ∷ [])
 read_text ReadLinkDown = codes "linkdown"
 
 abbrev pub land_text : PathLand → List ℕ
 land_text Nothing = codes "nothing"
 land_text Blocked = codes "blocked"
-land_text (Write at len) = with_two (codes "landed write") at len
-land_text (Request number) = with_one (codes "landed read") number
-land_text (Part number part) = with_two (codes "part") number part
-land_text (Whole number bytes) = with_one (codes "data") number ++ 32 ∷ encode_lower bytes
+land_text (Write at len) = codes "landed write" ++ numbers_text (at ∷ len ∷ [])
+land_text (Request number) = codes "landed read" ++ numbers_text (number ∷ [])
+land_text (Part number part) = codes "part" ++ numbers_text (number ∷ part ∷ [])
+land_text (Whole number bytes) = codes "data" ++ numbers_text (number ∷ []) ++ 32 ∷ encode_lower bytes
 
 -- a relink cleans and enables both sides, so the last two never come
 abbrev pub refusal_text : LinkRefusal → List ℕ

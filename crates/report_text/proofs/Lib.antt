@@ -2,3 +2,4 @@ pub mod Devices
 pub mod Facade
 pub mod Repeats
 pub mod Runs
+pub mod Words
