@@ -129,15 +129,23 @@ impl Pair {
         })
     }
 
-    /// The plan of the pair, which never changes. The clause `law` has what is so of every pair. Its plan is one that a
-    /// script can declare, and its memories have the plan's bytes. Each side has 16 scratchpads, a doorbell of 32 bits,
-    /// and a book of its own queues and offer. Each write in flight has its place at the peer.
+    /// What is so of every pair. Its plan is one that a script can declare, and its memories have the plan's bytes.
+    /// Each side has 16 scratchpads, a doorbell of 32 bits, and a book of its own queues and offer. Each write in
+    /// flight has its place at the peer. It does nothing: its clause is the law.
+    #[inline(always)]
+    pub fn law(&self)
+        ensures { IsBridge self.now }
+    {
+        self.a.law();
+        self.b.law();
+    }
+
+    /// The plan of the pair, which never changes. The clause `law` has what is so of every pair, as [`Pair::law`].
     pub fn plan(&self) -> &PairPlan
         ensures value { result.now ≡ self.now.plan }
         ensures law { IsBridge self.now }
     {
-        self.a.law();
-        self.b.law();
+        self.law();
         self.plan.as_ref()
     }
 

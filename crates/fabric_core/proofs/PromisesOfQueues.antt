@@ -13,6 +13,7 @@ use Rattle.bridge_pair.specs.Pages.{PagesGrow}
 use Rattle.fabric_rule.specs.Parts.{QueuePart, plain_bridge}
 use Rattle.frame_ring.specs.Calls.{begin_answer as port_begin_answer, down_answer, down_begun, frame_begun, where_begun}
 use Rattle.frame_ring.specs.Port.{Left, PortState, unused_of, writes_left}
+use Rattle.frame_ring.specs.PortCalls.{IsGrown, IsGrownBoth}
 use Rattle.frame_ring.specs.PortView.{HasPages, HasPagesIn, IsLeftReady, IsReady, with_room}
 use Rattle.queue_pair.specs.Gates.{after_begin, after_qpdown, closed_where_begun, port_unless, qpdown_answer, sender_refusal}
 use Rattle.queue_pair.specs.Queue.{QueueState}
@@ -84,10 +85,6 @@ pub record SamePlace (new old : PortState) : Type 0 where
 pub same_place : (port : PortState) → SamePlace port port
 same_place port = record { same_plan = refl; same_side = refl; same_queue = refl }
 
--- of a bridge whose pages at the peer grew, and its room with what the port hasn't used
-abbrev pub IsGrown : PortState → PortState → Bridge → Bridge → Type 0
-IsGrown old new before after = after ≡ with_room (with_pages before (other_side old.side) (pages_of after (other_side old.side))) old.side (unused_of new - unused_of old)
-
 -- Promising pages at the peer and room at the side leaves a bridge the same, promises aside.
 pub plain_grown : (old new : PortState) (before after : Bridge) → IsGrown old new before after → plain_bridge after ≡ plain_bridge before
 plain_grown old new before after rest = ap plain_bridge rest ∙ grown_plain before old.side (pages_of after (other_side old.side)) (unused_of new - unused_of old)
@@ -149,11 +146,6 @@ both_plain : (bridge : Bridge) (side : Side) (peer own : List ℕ) (more : ℕ)
     → plain_bridge (with_room (with_pages (with_pages bridge (other_side side) peer) side own) side more) ≡ plain_bridge bridge
 both_plain bridge A peer own more = refl
 both_plain bridge B peer own more = refl
-
--- of a bridge whose pages grew on both sides
-abbrev pub IsGrownBoth : PortState → PortState → Bridge → Bridge → Type 0
-IsGrownBoth old new before after =
-    after ≡ with_room (with_pages (with_pages before (other_side old.side) (pages_of after (other_side old.side))) old.side (pages_of after old.side)) old.side (unused_of new - unused_of old)
 
 -- Promising pages in both memories and room at the side leaves a bridge the same, promises aside.
 pub plain_grown_both : (old new : PortState) (before after : Bridge) → IsGrownBoth old new before after → plain_bridge after ≡ plain_bridge before

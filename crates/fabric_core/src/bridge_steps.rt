@@ -178,7 +178,7 @@ fn shown_memory(
     requires few { len ≤ 64 }
     ensures { IfOk result (λ given. given ≡ answer.Mem (bytes_at at len (bytes_of pair.now side))) }
 {
-    let _plan = pair.plan();
+    pair.law();
     let mut bytes = Vec::new(alloc);
     bytes.resize(len as usize, 0u8)?;
     pair.local_read(side, at, &mut bytes);

@@ -1,6 +1,6 @@
 //! A pair with its queues.
 
-ghost use Rattle.std.specs.Prelude.{IfOk, IsErr, IsSome, IsTrue, OnErr, OnOk, length, map, slice_index_or, slice_set, true, ◌++◌, ◌<◌, ◌↔◌, ◌≡◌};
+ghost use Rattle.std.specs.Prelude.{IfOk, IsErr, IsTrue, OnErr, OnOk, length, map, slice_index_or, slice_set, true, ◌++◌, ◌<◌, ◌↔◌, ◌≡◌};
 ghost use Rattle.bridge_pair.specs.Bridge.{flight_of, pages_of};
 ghost use Rattle.fabric_core.specs.Fabric.{bridge_wants_memory, may_want_memory, queue_wants_memory};
 ghost use Rattle.fabric_core.specs.InFlight.{pair_key, pair_key_without};
@@ -11,7 +11,7 @@ ghost use Rattle.fabric_core.specs.Wants.{MayWant, MayWantOnQueue};
 ghost use Rattle.step_kinds.specs.Answers.{is_made};
 ghost use Rattle.fabric_rule.specs.Laws.{IsFreshPair};
 ghost use Rattle.fabric_rule.specs.Parts.{no_queue, plain_bridge, plain_pair, queue_of};
-ghost use Rattle.frame_ring.specs.Calls.{frame_due};
+ghost use Rattle.frame_ring.specs.PortCalls.{IsDue};
 ghost use Rattle.frame_ring.specs.PortView.{FitsRings, HasPagesIn, HasRoomIn};
 ghost use Rattle.pair_model.specs.DeclaredPlans.{IsPair};
 ghost use Rattle.pair_model.specs.Plans.{side_plan as side_plan_of};
@@ -175,8 +175,7 @@ impl PairBox {
     /// [`AllocError`] from out of memory alone, and only where there is such a frame.
     pub fn frame_due(&self, side: Side, queue: u32) -> Result<Option<Frame>, AllocError>
         requires { queue < (side_plan_of self.now.bridge.plan side).queues }
-        ensures value { IfOk result (λ due. due ≡ frame_due (queue_of self.now side queue).queue.port self.now.bridge) }
-        ensures wants { OnErr result (IsSome (frame_due (queue_of self.now side queue).queue.port self.now.bridge)) }
+        ensures { IsDue (queue_of self.now side queue).queue.port self.now.bridge result }
     {
         self.queue(side, queue).frame_due(self.alloc, &self.pair)
     }

@@ -1,6 +1,6 @@
 //! One queue of one side, with what is counted of it.
 
-ghost use Rattle.std.specs.Prelude.{IfOk, IsErr, IsSome, IsTrue, OnErr, OnOk, length, true, ◌<◌, ◌↔◌, ◌≡◌, ◌≤◌};
+ghost use Rattle.std.specs.Prelude.{IfOk, IsErr, IsTrue, OnErr, OnOk, length, true, ◌<◌, ◌↔◌, ◌≡◌, ◌≤◌};
 ghost use Rattle.fabric_core.specs.Numbers.{HasRoomToSend};
 ghost use Rattle.fabric_core.specs.Fabric.{queue_wants_memory};
 ghost use Rattle.fabric_core.specs.Parts.{CanTurnQueue, KeepsPort, fresh_part};
@@ -9,7 +9,8 @@ ghost use Rattle.fabric_core.specs.Same.{AreOfOnePlace, IsSamePart};
 ghost use Rattle.fabric_core.specs.Wants.{MayWantOnQueue};
 ghost use Rattle.pair_model.specs.Ethernet.{ethernet_frame};
 ghost use Rattle.fabric_rule.specs.Parts.{count_in, plain_bridge};
-ghost use Rattle.frame_ring.specs.Calls.{frame_due, free_answer, reset_by};
+ghost use Rattle.frame_ring.specs.Calls.{free_answer, reset_by};
+ghost use Rattle.frame_ring.specs.PortCalls.{IsDue};
 ghost use Rattle.frame_ring.specs.PortView.{FitsRings, HasPagesIn, HasRoomIn};
 ghost use Rattle.pair_model.specs.DeclaredPlans.{IsPair, IsPayload};
 ghost use Rattle.pair_model.specs.Plans.{side_plan as side_plan_of};
@@ -269,9 +270,7 @@ impl QueueBox {
     fn copy(&mut self, pair: &Pair) -> Answer
         requires plan { pair.now.plan ≡ self.old.queue.port.plan }
         requires pages { HasPagesIn self.old.queue.port pair.now }
-        ensures answer { result ≡ (copy_turn self.old pair.now).answer }
-        ensures after { self.new ≡ (copy_turn self.old pair.now).part }
-        ensures keeps { KeepsPort self.old.queue.port self.new.queue.port pair.now pair.now }
+        ensures { HasTurned (copy_turn self.old pair.now) result self.old self.new pair.now pair.now }
     {
         let copy = self.queue.copy(pair);
         if let LaneCopy::Whole { frame, .. } = &copy {
@@ -288,8 +287,7 @@ impl QueueBox {
     /// [`AllocError`] from out of memory alone, and only where there is such a frame.
     pub fn frame_due(&self, alloc: Global, pair: &Pair) -> Result<Option<Frame>, AllocError>
         requires { pair.now.plan ≡ self.now.queue.port.plan }
-        ensures value { IfOk result (λ due. due ≡ frame_due self.now.queue.port pair.now) }
-        ensures wants { OnErr result (IsSome (frame_due self.now.queue.port pair.now)) }
+        ensures { IsDue self.now.queue.port pair.now result }
     {
         self.queue.frame_due(alloc, pair)
     }

@@ -3,6 +3,7 @@ pub mod Gathering
 pub mod Incoming
 pub mod Outgoing
 pub mod Port
+pub mod PortCalls
 pub mod PortView
 pub mod Ports
 pub mod Promises

@@ -1,8 +1,6 @@
 //! One queue of one side.
 
-ghost use Rattle.std.specs.Prelude.{◌≡◌, ◌↔◌, ◌+◌, ◌-◌, ◌<◌, ◌≤◌, IfOk, IsSome, IsTrue, OnErr, OnOk, false, length, true};
-ghost use Rattle.bridge_pair.specs.Bridge.{flight_of, pages_of, with_pages};
-ghost use Rattle.bridge_pair.specs.Pages.{PagesGrow};
+ghost use Rattle.std.specs.Prelude.{◌≡◌, ◌↔◌, ◌+◌, ◌<◌, ◌≤◌, IfOk, IsTrue, OnErr, OnOk, false, length, true};
 ghost use Rattle.pair_model.specs.Addresses.{own_header};
 ghost use Rattle.pair_model.specs.Headers.{flags_offset};
 ghost use Rattle.pair_model.specs.RingWrites.{index_write};
@@ -14,8 +12,6 @@ ghost use Rattle.pair_model.specs.Plans.{side_plan as side_plan_of};
 ghost use Rattle.pair_model.specs.Sizes.{layout_to};
 ghost use Rattle.ring_geometry.specs.Geometry.{max_payload_of};
 ghost use Rattle.step_kinds.specs.Limits.{most_frame_bytes};
-ghost use Rattle.step_kinds.specs.Sides.{other_side};
-ghost use Rattle.step_kinds.specs.declared.lanes.Begun.TheVariants.{Ok as BegunOk};
 ghost use Rattle.frame_ring.specs.declared.RingLook.TheVariants.{Ready};
 
 use crate::RingLook;
@@ -50,9 +46,10 @@ pub struct Port {
 }
 
 impl Port {
-    ghost use Rattle.frame_ring.specs.Calls.{BeginsFrame, FindsEntry, down_begun, frame_begun, room_answer, TouchedByBegin, TouchedByDown, TouchedByFlags, TouchedByLook, ack_answer, acked_by, after_ack, after_begin, after_clear, after_copy, after_down, after_look, after_post, begin_answer, clear_answer, cleared_by, copy_answer, down_answer, frame_due, free_answer, look_answer, post_answer, posted_by, refuses_answer, reset_by};
+    ghost use Rattle.frame_ring.specs.Calls.{BeginsFrame, down_begun, frame_begun, room_answer, begin_answer, down_answer, free_answer, look_answer, refuses_answer};
     ghost use Rattle.frame_ring.specs.Port.{fresh_port, is_busy, unused_of, with_receiving, writes_left};
-    ghost use Rattle.frame_ring.specs.PortView.{FitsRings, HasPagesIn, HasRoomIn, TouchesLeft, TouchesWrite, with_room};
+    ghost use Rattle.frame_ring.specs.PortCalls.{HasAcknowledged, HasBegun, HasBegunUnrefused, HasCleared, HasCopied, HasFound, HasGoneDown, HasLooked, HasPosted, HasPromised, HasPromisedBoth, HasReset, IsDue};
+    ghost use Rattle.frame_ring.specs.PortView.{FitsRings, HasPagesIn, HasRoomIn, TouchesLeft, TouchesWrite};
     ghost use Rattle.frame_ring.specs.Same.{IsSamePort};
 
     /// The port of one of a side's queues, with nothing sent and nothing received. The plan has to be one that a script
@@ -90,13 +87,7 @@ impl Port {
         requires some { 0 < length frame }
         requires plan { pair.old.plan ≡ self.old.plan }
         requires fits { FitsRings self.old.plan }
-        ensures answer { IfOk result (λ answer. answer ≡ begin_answer self.old pair.old (length frame)) }
-        ensures after { OnOk result (self.new ≡ after_begin self.old pair.old frame) }
-        ensures err { OnErr result (self.new ≡ self.old) }
-        ensures wants { OnErr result (begin_answer self.old pair.old (length frame) ≡ BegunOk self.old.sending.told) }
-        ensures rest { pair.new ≡ with_room (with_pages pair.old (other_side self.old.side) (pages_of pair.new (other_side self.old.side))) self.old.side (unused_of self.new - unused_of self.old) }
-        ensures pages { PagesGrow (TouchedByBegin self.old pair.old frame) (pages_of pair.old (other_side self.old.side)) (pages_of pair.new (other_side self.old.side)) }
-        ensures ready { OnOk result (HasPagesIn self.old pair.old → HasPagesIn self.new pair.new) }
+        ensures { HasBegun self.old self.new pair.old pair.new frame result }
     {
         match self.begin_answer(pair, frame.len()) {
             Begun::Ok { .. } => {
@@ -119,12 +110,7 @@ impl Port {
         requires plan { pair.old.plan ≡ self.old.plan }
         requires fits { FitsRings self.old.plan }
         requires begins { BeginsFrame self.old pair.old (length frame) }
-        ensures number { IfOk result (λ number. begin_answer self.old pair.old (length frame) ≡ BegunOk number) }
-        ensures after { OnOk result (self.new ≡ after_begin self.old pair.old frame) }
-        ensures err { OnErr result (self.new ≡ self.old) }
-        ensures rest { pair.new ≡ with_room (with_pages pair.old (other_side self.old.side) (pages_of pair.new (other_side self.old.side))) self.old.side (unused_of self.new - unused_of self.old) }
-        ensures pages { PagesGrow (TouchedByBegin self.old pair.old frame) (pages_of pair.old (other_side self.old.side)) (pages_of pair.new (other_side self.old.side)) }
-        ensures ready { OnOk result (HasPagesIn self.old pair.old → HasPagesIn self.new pair.new) }
+        ensures { HasBegunUnrefused self.old self.new pair.old pair.new frame result }
     {
         let number = self.sender.told();
         self.begin_frame(pair, frame)?;
@@ -142,13 +128,7 @@ impl Port {
     pub fn down(&mut self, pair: &mut Pair) -> Result<Begun, AllocError>
         requires plan { pair.old.plan ≡ self.old.plan }
         requires fits { FitsRings self.old.plan }
-        ensures answer { IfOk result (λ answer. answer ≡ down_answer self.old pair.old) }
-        ensures after { OnOk result (self.new ≡ after_down self.old pair.old) }
-        ensures err { OnErr result (self.new ≡ self.old) }
-        ensures wants { OnErr result (down_answer self.old pair.old ≡ BegunOk self.old.sending.told) }
-        ensures rest { pair.new ≡ with_room (with_pages pair.old (other_side self.old.side) (pages_of pair.new (other_side self.old.side))) self.old.side (unused_of self.new - unused_of self.old) }
-        ensures pages { PagesGrow (TouchedByDown self.old pair.old) (pages_of pair.old (other_side self.old.side)) (pages_of pair.new (other_side self.old.side)) }
-        ensures ready { OnOk result (HasPagesIn self.old pair.old → HasPagesIn self.new pair.new) }
+        ensures { HasGoneDown self.old self.new pair.old pair.new result }
     {
         match self.down_answer(pair) {
             Begun::Ok { number } => {
@@ -166,11 +146,7 @@ impl Port {
         requires plan { pair.old.plan ≡ self.old.plan }
         requires room { HasRoomIn self.old pair.old }
         requires pages { HasPagesIn self.old pair.old }
-        ensures answer { result ≡ post_answer self.old }
-        ensures after { self.new ≡ after_post self.old }
-        ensures pair { pair.new ≡ posted_by self.old pair.old }
-        ensures spare { (flight_of pair.new self.old.side).spare + unused_of self.old ≡ (flight_of pair.old self.old.side).spare + unused_of self.new }
-        ensures ready { HasPagesIn self.new pair.new }
+        ensures { HasPosted self.old self.new pair.old pair.new result }
     {
         self.sender.advance();
         let label = self.sender.label();
@@ -197,14 +173,7 @@ impl Port {
     pub fn look(&mut self, pair: &mut Pair) -> Result<RingLook, AllocError>
         requires plan { pair.old.plan ≡ self.old.plan }
         requires fits { FitsRings self.old.plan }
-        ensures answer { IfOk result (λ answer. answer ≡ look_answer self.old pair.old) }
-        ensures after { OnOk result (self.new ≡ after_look self.old pair.old) }
-        ensures err { OnErr result (self.new ≡ self.old) }
-        ensures wants { OnErr result (FindsEntry self.old pair.old) }
-        ensures rest { pair.new ≡ with_room (with_pages (with_pages pair.old (other_side self.old.side) (pages_of pair.new (other_side self.old.side))) self.old.side (pages_of pair.new self.old.side)) self.old.side (unused_of self.new - unused_of self.old) }
-        ensures pages { PagesGrow (TouchedByLook self.old pair.old) (pages_of pair.old (other_side self.old.side)) (pages_of pair.new (other_side self.old.side)) }
-        ensures flags { PagesGrow (TouchedByFlags self.old pair.old) (pages_of pair.old self.old.side) (pages_of pair.new self.old.side) }
-        ensures ready { OnOk result (HasPagesIn self.old pair.old → HasPagesIn self.new pair.new) }
+        ensures { HasLooked self.old self.new pair.old pair.new result }
     {
         let Phase::Idle = self.receiver.phase() else {
             return Ok(RingLook::OutOfTurn);
@@ -230,16 +199,10 @@ impl Port {
         requires plan { pair.old.plan ≡ self.old.plan }
         requires fits { FitsRings self.old.plan }
         requires found { look_answer self.old pair.old ≡ Ready self.old.receiving.got len }
-        ensures after { OnOk result (self.new ≡ after_look self.old pair.old) }
-        ensures err { OnErr result (self.new ≡ self.old) }
-        ensures rest { pair.new ≡ with_room (with_pages (with_pages pair.old (other_side self.old.side) (pages_of pair.new (other_side self.old.side))) self.old.side (pages_of pair.new self.old.side)) self.old.side (unused_of self.new - unused_of self.old) }
-        ensures pages { PagesGrow (TouchedByLook self.old pair.old) (pages_of pair.old (other_side self.old.side)) (pages_of pair.new (other_side self.old.side)) }
-        ensures flags { PagesGrow (TouchedByFlags self.old pair.old) (pages_of pair.old self.old.side) (pages_of pair.new self.old.side) }
-        ensures ready { OnOk result (HasPagesIn self.old pair.old → HasPagesIn self.new pair.new) }
+        ensures { HasFound self.old self.new pair.old pair.new result }
     {
         let left = followers(&self.rings, pair, self.receiver.got());
-        // (so that a frame is known to have no more bytes than one may have)
-        let _most = self.rings.most_received();
+        self.rings.received_frames_are_short();
         self.stand_at(pair, len, left)
     }
 
@@ -250,14 +213,12 @@ impl Port {
     /// [`LaneCopy::OutOfTurn`] comes exactly where no entry is being copied, and changes nothing.
     pub fn copy(&mut self, pair: &Pair) -> LaneCopy
         requires { pair.now.plan ≡ self.old.plan }
-        ensures answer { result ≡ copy_answer self.old pair.now }
-        ensures after { self.new ≡ after_copy self.old pair.now }
-        ensures ready { HasPagesIn self.old pair.now → HasPagesIn self.new pair.now }
+        ensures { HasCopied self.old self.new pair.now result }
     {
         let Phase::Copying = self.receiver.phase() else {
             return LaneCopy::OutOfTurn;
         };
-        let _plan = pair.plan();
+        pair.law();
         let side = self.rings.side();
         let at = slot_at(&self.rings, self.receiver.got()) + self.receiver.part_offset();
         self.receiver.copy(pair, side, at)
@@ -271,13 +232,12 @@ impl Port {
     /// [`AllocError`] from out of memory alone, and only where there is such a frame.
     pub fn frame_due(&self, alloc: Global, pair: &Pair) -> Result<Option<Frame>, AllocError>
         requires { pair.now.plan ≡ self.now.plan }
-        ensures value { IfOk result (λ due. due ≡ frame_due self.now pair.now) }
-        ensures wants { OnErr result (IsSome (frame_due self.now pair.now)) }
+        ensures { IsDue self.now pair.now result }
     {
         let Phase::Copying = self.receiver.phase() else {
             return Ok(None);
         };
-        let _plan = pair.plan();
+        pair.law();
         let side = self.rings.side();
         let at = slot_at(&self.rings, self.receiver.got()) + self.receiver.part_offset();
         self.receiver.frame_due(alloc, pair, side, at)
@@ -288,10 +248,7 @@ impl Port {
     pub fn clear(&mut self, pair: &mut Pair) -> Option<u64>
         requires plan { pair.old.plan ≡ self.old.plan }
         requires pages { HasPagesIn self.old pair.old }
-        ensures answer { result ≡ clear_answer self.old }
-        ensures after { self.new ≡ after_clear self.old }
-        ensures pair { pair.new ≡ cleared_by self.old pair.old }
-        ensures ready { HasPagesIn self.new pair.new }
+        ensures { HasCleared self.old self.new pair.old pair.new result }
     {
         let Phase::Copied = self.receiver.phase() else {
             return None;
@@ -308,11 +265,7 @@ impl Port {
         requires plan { pair.old.plan ≡ self.old.plan }
         requires room { HasRoomIn self.old pair.old }
         requires pages { HasPagesIn self.old pair.old }
-        ensures answer { result ≡ ack_answer self.old }
-        ensures after { self.new ≡ after_ack self.old }
-        ensures pair { pair.new ≡ acked_by self.old pair.old }
-        ensures spare { (flight_of pair.new self.old.side).spare + unused_of self.old ≡ (flight_of pair.old self.old.side).spare + unused_of self.new }
-        ensures ready { HasPagesIn self.new pair.new }
+        ensures { HasAcknowledged self.old self.new pair.old pair.new result }
     {
         let Phase::Cleared = self.receiver.phase() else {
             return None;
@@ -426,8 +379,7 @@ impl Port {
     pub fn reset(&mut self, pair: &mut Pair)
         requires plan { pair.old.plan ≡ self.old.plan }
         requires room { HasRoomIn self.old pair.old }
-        ensures after { self.new ≡ fresh_port self.old.plan self.old.side self.old.queue }
-        ensures pair { pair.new ≡ reset_by self.old pair.old }
+        ensures { HasReset self.old self.new pair.old pair.new }
     {
         let unused = self.unused();
         pair.give_back(self.rings.side(), unused);
@@ -483,9 +435,7 @@ impl Port {
         requires idle { is_busy self.old.sending ≡ false }
         ensures after { OnOk result (self.new ≡ frame_begun self.old frame) }
         ensures err { OnErr result (self.new ≡ self.old) }
-        ensures rest { pair.new ≡ with_room (with_pages pair.old (other_side self.old.side) (pages_of pair.new (other_side self.old.side))) self.old.side (unused_of self.new - unused_of self.old) }
-        ensures pages { PagesGrow (TouchesLeft self.old.plan self.old.side (writes_left (frame_begun self.old frame))) (pages_of pair.old (other_side self.old.side)) (pages_of pair.new (other_side self.old.side)) }
-        ensures ready { OnOk result (HasPagesIn self.old pair.old → HasPagesIn self.new pair.new) }
+        ensures promises { HasPromised (TouchesLeft self.old.plan self.old.side (writes_left (frame_begun self.old frame))) self.old self.new pair.old pair.new result }
     {
         let largest = self.rings.out().max_payload();
         let from = self.sender.begun();
@@ -507,9 +457,7 @@ impl Port {
         requires idle { is_busy self.old.sending ≡ false }
         ensures after { OnOk result (self.new ≡ down_begun self.old) }
         ensures err { OnErr result (self.new ≡ self.old) }
-        ensures rest { pair.new ≡ with_room (with_pages pair.old (other_side self.old.side) (pages_of pair.new (other_side self.old.side))) self.old.side (unused_of self.new - unused_of self.old) }
-        ensures pages { PagesGrow (TouchesLeft self.old.plan self.old.side (writes_left (down_begun self.old))) (pages_of pair.old (other_side self.old.side)) (pages_of pair.new (other_side self.old.side)) }
-        ensures ready { OnOk result (HasPagesIn self.old pair.old → HasPagesIn self.new pair.new) }
+        ensures promises { HasPromised (TouchesLeft self.old.plan self.old.side (writes_left (down_begun self.old))) self.old self.new pair.old pair.new result }
     {
         let from = self.sender.begun();
         if !has_numbers(from, 1, 0) {
@@ -530,10 +478,7 @@ impl Port {
         requires fits { length self.old.receiving.gathered + len ≤ most_frame_bytes }
         ensures after { OnOk result (self.new ≡ with_receiving self.old (record self.old.receiving { phase = Copying; part = 0; len = len; left = left })) }
         ensures err { OnErr result (self.new ≡ self.old) }
-        ensures rest { pair.new ≡ with_room (with_pages (with_pages pair.old (other_side self.old.side) (pages_of pair.new (other_side self.old.side))) self.old.side (pages_of pair.new self.old.side)) self.old.side (unused_of self.new - unused_of self.old) }
-        ensures pages { PagesGrow (TouchesWrite self.old.plan self.old.side (index_write self.old.plan self.old.side self.old.queue self.old.receiving.got)) (pages_of pair.old (other_side self.old.side)) (pages_of pair.new (other_side self.old.side)) }
-        ensures flags { PagesGrow (Touches (own_header self.old.plan self.old.side self.old.queue self.old.receiving.got + flags_offset self.old.plan) 4) (pages_of pair.old self.old.side) (pages_of pair.new self.old.side) }
-        ensures ready { OnOk result (HasPagesIn self.old pair.old → HasPagesIn self.new pair.new) }
+        ensures promises { HasPromisedBoth (TouchesWrite self.old.plan self.old.side (index_write self.old.plan self.old.side self.old.queue self.old.receiving.got)) (Touches (own_header self.old.plan self.old.side self.old.queue self.old.receiving.got + flags_offset self.old.plan) 4) self.old self.new pair.old pair.new result }
     {
         let got = self.receiver.got();
         if !has_numbers(got, 1, 0) {

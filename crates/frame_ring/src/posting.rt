@@ -201,7 +201,7 @@ pub fn clear_flags(rings: &QueueRings, pair: &mut Pair, n: u64)
     requires promised { ArePromised (own_header rings.now.plan rings.now.side rings.now.queue n + offset_of_flags rings.now.plan) 4 (pages_of pair.old rings.now.side) }
     ensures { pair.new ≡ flags_cleared pair.old rings.now.side rings.now.queue n }
 {
-    let _plan = pair.plan();
+    pair.law();
     let at = header_at(rings, n) + flags_offset(rings);
     pair.local_write(rings.side(), at, &[0u8; 4]);
 }

@@ -40,7 +40,7 @@ impl QueueRings {
         if !reaches(self) {
             return Ok(());
         }
-        let _plan = pair.plan();
+        pair.law();
         let peer = self.side().other();
         let at = own_address(self.plan(), peer, self.out_window(), offset);
         pair.promise_range(peer, at, len)
@@ -101,7 +101,7 @@ impl QueueRings {
         ensures pages { PagesGrow (Touches (own_header self.now.plan self.now.side self.now.queue n + offset_of_flags self.now.plan) 4) (pages_of pair.old self.now.side) (pages_of pair.new self.now.side) }
         ensures ok { OnOk result (ArePromised (own_header self.now.plan self.now.side self.now.queue n + offset_of_flags self.now.plan) 4 (pages_of pair.new self.now.side)) }
     {
-        let _plan = pair.plan();
+        pair.law();
         let at = header_at(self, n) + flags_offset(self);
         pair.promise_range(self.side(), at, 4)
     }

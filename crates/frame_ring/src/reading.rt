@@ -71,7 +71,7 @@ fn word(rings: &QueueRings, pair: &Pair, at: u64) -> u32
     requires within { at + 4 ≤ memory_size rings.now.plan rings.now.side }
     ensures { result ≡ word_at (bytes_seen pair.now) rings.now.side at }
 {
-    let _plan = pair.plan();
+    pair.law();
     pair.local_word(rings.side(), at)
 }
 
@@ -126,7 +126,7 @@ pub fn index_word_at(rings: &QueueRings) -> u64
 pub fn has_index_word(rings: &QueueRings) -> bool
     ensures { result ≡ nat_le (own_index_word rings.now.plan rings.now.side rings.now.queue + 4) (memory_size rings.now.plan rings.now.side) }
 {
-    let _side = rings.side();
+    rings.law();
     index_word_at(rings) + 4 <= memory_bytes(rings.plan(), rings.side())
 }
 

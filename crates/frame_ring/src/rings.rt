@@ -69,6 +69,15 @@ impl QueueRings {
         }
     }
 
+    /// What is so of the rings of every queue: their plan is one that a script can declare, and the side has the queue.
+    /// It does nothing: its clause is the law.
+    #[inline(always)]
+    pub fn law(&self)
+        ensures { IsQueueOf self.now }
+    {
+        let _side = self.side();
+    }
+
     /// The side, of a queue that it has.
     pub fn side(&self) -> Side
         ensures value { result ≡ self.now.side }
@@ -97,7 +106,7 @@ impl QueueRings {
         ensures value { result.now ≡ layout_of self.now.plan self.now.side self.now.queue }
         ensures placed { IsPlaced result.now }
     {
-        let _entries = self.out.entries();
+        ring_is_placed(&self.out);
         &self.out
     }
 
@@ -106,7 +115,7 @@ impl QueueRings {
         ensures value { result.now ≡ layout_to self.now.plan self.now.side self.now.queue }
         ensures placed { IsPlaced result.now }
     {
-        let _entries = self.into.entries();
+        ring_is_placed(&self.into);
         &self.into
     }
 
@@ -156,6 +165,14 @@ impl QueueRings {
             self.into.max_payload()
         }
     }
+
+    /// No frame that is received is longer than a frame may be. It does nothing: its clause is the law.
+    #[inline(always)]
+    pub fn received_frames_are_short(&self)
+        ensures { (sizes_in self.now.plan (layout_to self.now.plan self.now.side self.now.queue)).most ≤ most_frame_bytes }
+    {
+        let _most = self.most_received();
+    }
 }
 
 impl Model for QueueRings {
@@ -166,6 +183,14 @@ impl Model for QueueRings {
     ghost view = { rings_seen };
 
     ghost invariant = { ArePlaced };
+}
+
+// A ring lies in its window. It does nothing: its clause is the law.
+#[inline(always)]
+fn ring_is_placed(ring: &Geometry)
+    ensures { IsPlaced ring.now }
+{
+    let _entries = ring.entries();
 }
 
 /// The slot of a ring for entry `n`.

@@ -1,4 +1,3 @@
 pub mod Begins
 pub mod LookAnswers
-pub mod PairsLeft
 pub mod Refusals

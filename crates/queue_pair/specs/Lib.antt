@@ -1,3 +1,4 @@
+pub mod Calls
 pub mod Gates
 pub mod Laws
 pub mod Queue

@@ -1,15 +1,11 @@
 //! Queue pairs and doorbell interrupts.
 
-ghost use Rattle.std.specs.Prelude.{◌≡◌, ◌↔◌, ◌+◌, ◌-◌, ◌<◌, ◌≤◌, true, IfOk, IsSome, IsTrue, OnErr, OnOk, length};
-ghost use Rattle.bridge_pair.specs.Bridge.{flight_of, pages_of, with_pages};
-ghost use Rattle.bridge_pair.specs.Pages.{PagesGrow};
+ghost use Rattle.std.specs.Prelude.{◌≡◌, ◌↔◌, ◌<◌, ◌≤◌, false, true, IfOk, IsTrue, length};
 ghost use Rattle.pair_model.specs.DeclaredPlans.{IsPair};
 ghost use Rattle.pair_model.specs.Plans.{side_plan as side_plan_of};
 ghost use Rattle.queue_pair.specs.Gates.{after_irq, answer_of_begun as begun_answer, answer_of_look as answer_of_ring, irq_bits};
-ghost use Rattle.queue_pair.specs.declared.BeginAnswer.TheVariants.{Ok as IsBegun};
 ghost use Rattle.queue_pair.specs.declared.LookAnswer.TheVariants.{Ready};
 ghost use Rattle.step_kinds.specs.Limits.{most_frame_bytes};
-ghost use Rattle.step_kinds.specs.Sides.{other_side};
 
 use crate::{BeginAnswer, LookAnswer};
 use bridge_pair::Pair;
@@ -29,10 +25,11 @@ pub struct QueuePair {
 }
 
 impl QueuePair {
-    ghost use Rattle.frame_ring.specs.Calls.{TouchedByBegin, TouchedByDown, TouchedByFlags, TouchedByLook, ack_answer, acked_by, after_ack, after_clear, after_copy, after_post, clear_answer, cleared_by, copy_answer, frame_due, free_answer, post_answer, posted_by, reset_by};
-    ghost use Rattle.frame_ring.specs.Port.{unused_of};
-    ghost use Rattle.frame_ring.specs.PortView.{FitsRings, HasPagesIn, HasRoomIn, with_room};
-    ghost use Rattle.queue_pair.specs.Gates.{BeginsFrame, FindsEntry, after_begin, after_look, after_qpdown, begin_answer, is_joined, look_answer, qpdown_answer, refuses_answer, sender_refusal};
+    ghost use Rattle.frame_ring.specs.Calls.{free_answer};
+    ghost use Rattle.frame_ring.specs.PortCalls.{HasAcknowledged, HasCleared, HasCopied, HasPosted, HasReset, IsDue};
+    ghost use Rattle.frame_ring.specs.PortView.{FitsRings, HasPagesIn, HasRoomIn};
+    ghost use Rattle.queue_pair.specs.Calls.{HasBegunOnQueue, HasBegunUnrefusedOnQueue, HasFoundOnQueue, HasGoneDownOnQueue, HasLookedOnQueue};
+    ghost use Rattle.queue_pair.specs.Gates.{BeginsFrame, begin_answer, is_joined, look_answer, refuses_answer, sender_refusal};
     ghost use Rattle.queue_pair.specs.Queue.{fresh_queue, with_port};
     ghost use Rattle.queue_pair.specs.Same.{IsSameQueue};
 
@@ -62,13 +59,7 @@ impl QueuePair {
         requires some { 0 < length frame }
         requires plan { pair.old.plan ≡ self.old.port.plan }
         requires fits { is_joined self.old pair.old ≡ true → FitsRings self.old.port.plan }
-        ensures answer { IfOk result (λ answer. answer ≡ begin_answer self.old pair.old (length frame)) }
-        ensures after { OnOk result (self.new ≡ after_begin self.old pair.old frame) }
-        ensures err { OnErr result (self.new ≡ self.old) }
-        ensures wants { OnErr result (begin_answer self.old pair.old (length frame) ≡ IsBegun self.old.port.sending.told) }
-        ensures rest { pair.new ≡ with_room (with_pages pair.old (other_side self.old.port.side) (pages_of pair.new (other_side self.old.port.side))) self.old.port.side (unused_of self.new.port - unused_of self.old.port) }
-        ensures pages { PagesGrow (TouchedByBegin self.old.port pair.old frame) (pages_of pair.old (other_side self.old.port.side)) (pages_of pair.new (other_side self.old.port.side)) }
-        ensures ready { OnOk result (HasPagesIn self.old.port pair.old → HasPagesIn self.new.port pair.new) }
+        ensures { HasBegunOnQueue self.old self.new pair.old pair.new frame result }
     {
         if let Some(refusal) = self.sender_refusal(pair) {
             return Ok(refusal);
@@ -88,12 +79,7 @@ impl QueuePair {
         requires plan { pair.old.plan ≡ self.old.port.plan }
         requires fits { is_joined self.old pair.old ≡ true → FitsRings self.old.port.plan }
         requires begins { BeginsFrame self.old pair.old (length frame) }
-        ensures number { IfOk result (λ number. begin_answer self.old pair.old (length frame) ≡ IsBegun number) }
-        ensures after { OnOk result (self.new ≡ after_begin self.old pair.old frame) }
-        ensures err { OnErr result (self.new ≡ self.old) }
-        ensures rest { pair.new ≡ with_room (with_pages pair.old (other_side self.old.port.side) (pages_of pair.new (other_side self.old.port.side))) self.old.port.side (unused_of self.new.port - unused_of self.old.port) }
-        ensures pages { PagesGrow (TouchedByBegin self.old.port pair.old frame) (pages_of pair.old (other_side self.old.port.side)) (pages_of pair.new (other_side self.old.port.side)) }
-        ensures ready { OnOk result (HasPagesIn self.old.port pair.old → HasPagesIn self.new.port pair.new) }
+        ensures { HasBegunUnrefusedOnQueue self.old self.new pair.old pair.new frame result }
     {
         self.port.begin_unrefused(pair, frame)
     }
@@ -107,13 +93,7 @@ impl QueuePair {
     pub fn qpdown(&mut self, pair: &mut Pair) -> Result<BeginAnswer, AllocError>
         requires plan { pair.old.plan ≡ self.old.port.plan }
         requires fits { is_joined self.old pair.old ≡ true → FitsRings self.old.port.plan }
-        ensures answer { IfOk result (λ answer. answer ≡ qpdown_answer self.old pair.old) }
-        ensures after { OnOk result (self.new ≡ after_qpdown self.old pair.old) }
-        ensures err { OnErr result (self.new ≡ self.old) }
-        ensures wants { OnErr result (qpdown_answer self.old pair.old ≡ IsBegun self.old.port.sending.told) }
-        ensures rest { pair.new ≡ with_room (with_pages pair.old (other_side self.old.port.side) (pages_of pair.new (other_side self.old.port.side))) self.old.port.side (unused_of self.new.port - unused_of self.old.port) }
-        ensures pages { PagesGrow (TouchedByDown self.old.port pair.old) (pages_of pair.old (other_side self.old.port.side)) (pages_of pair.new (other_side self.old.port.side)) }
-        ensures ready { OnOk result (HasPagesIn self.old.port pair.old → HasPagesIn self.new.port pair.new) }
+        ensures { HasGoneDownOnQueue self.old self.new pair.old pair.new result }
     {
         if let Some(refusal) = self.sender_refusal(pair) {
             return Ok(refusal);
@@ -131,11 +111,8 @@ impl QueuePair {
         requires plan { pair.old.plan ≡ self.old.port.plan }
         requires room { HasRoomIn self.old.port pair.old }
         requires pages { HasPagesIn self.old.port pair.old }
-        ensures answer { result ≡ post_answer self.old.port }
-        ensures after { self.new ≡ with_port self.old (after_post self.old.port) }
-        ensures pair { pair.new ≡ posted_by self.old.port pair.old }
-        ensures spare { (flight_of pair.new self.old.port.side).spare + unused_of self.old.port ≡ (flight_of pair.old self.old.port.side).spare + unused_of self.new.port }
-        ensures ready { HasPagesIn self.new.port pair.new }
+        ensures port { HasPosted self.old.port self.new.port pair.old pair.new result }
+        ensures rest { self.new ≡ with_port self.old self.new.port }
     {
         self.port.post(pair)
     }
@@ -150,14 +127,7 @@ impl QueuePair {
     pub fn look(&mut self, pair: &mut Pair) -> Result<LookAnswer, AllocError>
         requires plan { pair.old.plan ≡ self.old.port.plan }
         requires fits { is_joined self.old pair.old ≡ true → FitsRings self.old.port.plan }
-        ensures answer { IfOk result (λ answer. answer ≡ look_answer self.old pair.old) }
-        ensures after { OnOk result (self.new ≡ after_look self.old pair.old) }
-        ensures err { OnErr result (self.new ≡ self.old) }
-        ensures wants { OnErr result (FindsEntry self.old pair.old) }
-        ensures rest { pair.new ≡ with_room (with_pages (with_pages pair.old (other_side self.old.port.side) (pages_of pair.new (other_side self.old.port.side))) self.old.port.side (pages_of pair.new self.old.port.side)) self.old.port.side (unused_of self.new.port - unused_of self.old.port) }
-        ensures pages { PagesGrow (TouchedByLook self.old.port pair.old) (pages_of pair.old (other_side self.old.port.side)) (pages_of pair.new (other_side self.old.port.side)) }
-        ensures flags { PagesGrow (TouchedByFlags self.old.port pair.old) (pages_of pair.old self.old.port.side) (pages_of pair.new self.old.port.side) }
-        ensures ready { OnOk result (HasPagesIn self.old.port pair.old → HasPagesIn self.new.port pair.new) }
+        ensures { HasLookedOnQueue self.old self.new pair.old pair.new result }
     {
         if !self.is_joined(pair) {
             return Ok(LookAnswer::NotReady);
@@ -182,12 +152,7 @@ impl QueuePair {
         requires plan { pair.old.plan ≡ self.old.port.plan }
         requires fits { is_joined self.old pair.old ≡ true → FitsRings self.old.port.plan }
         requires found { look_answer self.old pair.old ≡ Ready self.old.port.receiving.got len }
-        ensures after { OnOk result (self.new ≡ after_look self.old pair.old) }
-        ensures err { OnErr result (self.new ≡ self.old) }
-        ensures rest { pair.new ≡ with_room (with_pages (with_pages pair.old (other_side self.old.port.side) (pages_of pair.new (other_side self.old.port.side))) self.old.port.side (pages_of pair.new self.old.port.side)) self.old.port.side (unused_of self.new.port - unused_of self.old.port) }
-        ensures pages { PagesGrow (TouchedByLook self.old.port pair.old) (pages_of pair.old (other_side self.old.port.side)) (pages_of pair.new (other_side self.old.port.side)) }
-        ensures flags { PagesGrow (TouchedByFlags self.old.port pair.old) (pages_of pair.old self.old.port.side) (pages_of pair.new self.old.port.side) }
-        ensures ready { OnOk result (HasPagesIn self.old.port pair.old → HasPagesIn self.new.port pair.new) }
+        ensures { HasFoundOnQueue self.old self.new pair.old pair.new result }
     {
         self.port.find(pair, len)
     }
@@ -195,9 +160,8 @@ impl QueuePair {
     /// Copies the next part of the entry at hand, as [`Port::copy`]. It takes no memory.
     pub fn copy(&mut self, pair: &Pair) -> LaneCopy
         requires { pair.now.plan ≡ self.old.port.plan }
-        ensures answer { result ≡ copy_answer self.old.port pair.now }
-        ensures after { self.new ≡ with_port self.old (after_copy self.old.port pair.now) }
-        ensures ready { HasPagesIn self.old.port pair.now → HasPagesIn self.new.port pair.now }
+        ensures port { HasCopied self.old.port self.new.port pair.now result }
+        ensures rest { self.new ≡ with_port self.old self.new.port }
     {
         self.port.copy(pair)
     }
@@ -209,8 +173,7 @@ impl QueuePair {
     /// [`AllocError`] as from [`Port::frame_due`].
     pub fn frame_due(&self, alloc: Global, pair: &Pair) -> Result<Option<Frame>, AllocError>
         requires { pair.now.plan ≡ self.now.port.plan }
-        ensures value { IfOk result (λ due. due ≡ frame_due self.now.port pair.now) }
-        ensures wants { OnErr result (IsSome (frame_due self.now.port pair.now)) }
+        ensures { IsDue self.now.port pair.now result }
     {
         self.port.frame_due(alloc, pair)
     }
@@ -219,10 +182,8 @@ impl QueuePair {
     pub fn clear(&mut self, pair: &mut Pair) -> Option<u64>
         requires plan { pair.old.plan ≡ self.old.port.plan }
         requires pages { HasPagesIn self.old.port pair.old }
-        ensures answer { result ≡ clear_answer self.old.port }
-        ensures after { self.new ≡ with_port self.old (after_clear self.old.port) }
-        ensures pair { pair.new ≡ cleared_by self.old.port pair.old }
-        ensures ready { HasPagesIn self.new.port pair.new }
+        ensures port { HasCleared self.old.port self.new.port pair.old pair.new result }
+        ensures rest { self.new ≡ with_port self.old self.new.port }
     {
         self.port.clear(pair)
     }
@@ -232,11 +193,8 @@ impl QueuePair {
         requires plan { pair.old.plan ≡ self.old.port.plan }
         requires room { HasRoomIn self.old.port pair.old }
         requires pages { HasPagesIn self.old.port pair.old }
-        ensures answer { result ≡ ack_answer self.old.port }
-        ensures after { self.new ≡ with_port self.old (after_ack self.old.port) }
-        ensures pair { pair.new ≡ acked_by self.old.port pair.old }
-        ensures spare { (flight_of pair.new self.old.port.side).spare + unused_of self.old.port ≡ (flight_of pair.old self.old.port.side).spare + unused_of self.new.port }
-        ensures ready { HasPagesIn self.new.port pair.new }
+        ensures port { HasAcknowledged self.old.port self.new.port pair.old pair.new result }
+        ensures rest { self.new ≡ with_port self.old self.new.port }
     {
         self.port.ack(pair)
     }
@@ -320,8 +278,8 @@ impl QueuePair {
     pub fn reset(&mut self, pair: &mut Pair)
         requires plan { pair.old.plan ≡ self.old.port.plan }
         requires room { HasRoomIn self.old.port pair.old }
-        ensures after { self.new ≡ fresh_queue self.old.port.plan self.old.port.side self.old.port.queue }
-        ensures pair { pair.new ≡ reset_by self.old.port pair.old }
+        ensures port { HasReset self.old.port self.new.port pair.old pair.new }
+        ensures opened { self.new.closed ≡ false }
     {
         self.port.reset(pair);
         self.closed = false;

@@ -1,4 +1,5 @@
-use Rattle.std.proofs.Common.{◌≡◌, ◌∙◌, ◌-◌, [], ◌∷◌, false, not, refl, ap, sym, subst, arith}
+use Rattle.std.proofs.Common.{◌≡◌, ◌∙◌, ◌-◌, [], ◌∷◌, false, not, refl, ap, sym, subst, arith, rules}
+use Rattle.std.proofs.lemmas.Grind.{common_steps}
 use Rattle.pair_model.specs.DeclaredPlans.{SizesFit}
 use Rattle.step_kinds.specs.Sides.{other_side}
 use Rattle.step_kinds.specs.declared.names.Side.{Side}
@@ -9,6 +10,7 @@ use Rattle.posted_queue.specs.Flight.{promised}
 use Rattle.frame_ring.specs.Calls.{down_begun}
 use Rattle.frame_ring.specs.Outgoing.{Outgoing}
 use Rattle.frame_ring.specs.Port.{PortState, Sending, is_busy, unused_of, with_sending, writes_left}
+use Rattle.frame_ring.specs.PortCalls.{IsGrown}
 use Rattle.frame_ring.specs.Ports.{port_seen}
 use Rattle.frame_ring.specs.PortView.{HasPagesIn, TouchesLeft, with_room}
 use Rattle.lane_model.specs.Lane.{GoesDown}
@@ -17,23 +19,8 @@ use Rattle.frame_ring.proofs.FoundEntries.{pages_same}
 use Rattle.frame_ring.proofs.port.Port.begin_down.Goals as goal
 use Rattle.frame_ring.proofs.port.Port.begin_down.Goals.{After-down}
 
-pub returns-in_err-promise_entry-clause-pages : goal.returns-in_err-promise_entry-clause-pages
-returns-in_err-promise_entry-clause-pages c =
-    let port = port_seen c.self.inside in
-    let idle : is_busy port.sending ≡ false = ap (λ (port : PortState). is_busy port.sending) c.self.view_is ∙ c.requires.idle in
-    subst (λ (port : PortState). PagesGrow (TouchesLeft port.plan port.side (writes_left (down_begun port))) (pages_of c.args.pair.now (other_side port.side)) (pages_of c.promise_entry.new.pair (other_side port.side))) c.self.view_is
-    (down_grows port _ _ c.begun-from.result idle c.begun-from.ensures.value c.promise_entry.ensures.pages)
-
-pub returns-in_err-promise-clause-pages : goal.returns-in_err-promise-clause-pages
-returns-in_err-promise-clause-pages c =
-    let port = port_seen c.self.inside in
-    let idle : is_busy port.sending ≡ false = ap (λ (port : PortState). is_busy port.sending) c.self.view_is ∙ c.requires.idle in
-    let same : pages_of c.promise_entry.new.pair (other_side port.side) ≡ pages_of c.promise.new.self (other_side port.side) = sym (ap (λ (bridge : Bridge). pages_of bridge (other_side port.side)) c.in_err-promise.ensures.err) in
-    subst (λ (port : PortState). PagesGrow (TouchesLeft port.plan port.side (writes_left (down_begun port))) (pages_of c.args.pair.now (other_side port.side)) (pages_of c.promise.new.self (other_side port.side))) c.self.view_is
-    (subst (λ pages. PagesGrow (TouchesLeft port.plan port.side (writes_left (down_begun port))) (pages_of c.args.pair.now (other_side port.side)) pages) same
-    (down_grows port _ _ c.begun-from.result idle c.begun-from.ensures.value c.promise_entry.ensures.pages))
-
 -- the link-down entry is begun
+
 begins : (c : After-down)
     → Begins (port_seen c.self.inside) (down_begun (port_seen c.self.inside)).sending (GoesDown ∷ []) c.args.pair.now c.promise_entry.new.pair c.promise.new.self 4
 begins c =
@@ -65,51 +52,64 @@ invariant_of-self c =
       fits = c.self.invariant.fits;
     }
 
-pub returns-then-not-has_numbers-clause-rest : goal.returns-then-not-has_numbers-clause-rest
-returns-then-not-has_numbers-clause-rest c =
-    let port = c.args.self.now in
-    let pair = c.args.pair.now in
-    rest_kept pair pair pair port.side (unused_of port - unused_of port) (pages_same pair (other_side port.side)) refl (omega arith)
-
-pub returns-then-not-has_numbers-clause-pages : goal.returns-then-not-has_numbers-clause-pages
-returns-then-not-has_numbers-clause-pages c =
-    let port = c.args.self.now in
-    grows_nothing (TouchesLeft port.plan port.side (writes_left (down_begun port))) (pages_of c.args.pair.now (other_side port.side))
-
-pub returns-in_err-promise_entry-clause-rest : goal.returns-in_err-promise_entry-clause-rest
-returns-in_err-promise_entry-clause-rest c =
-    let port = port_seen c.self.inside in
-    let new = c.promise_entry.new.pair in
-    subst (λ (seen : PortState). new ≡ with_room (with_pages c.args.pair.now (other_side seen.side) (pages_of new (other_side seen.side))) seen.side (unused_of seen - unused_of seen)) c.self.view_is
-    (rest_kept c.args.pair.now new new port.side (unused_of port - unused_of port) c.promise_entry.ensures.rest refl (omega arith))
-
-pub returns-in_err-promise-clause-rest : goal.returns-in_err-promise-clause-rest
-returns-in_err-promise-clause-rest c =
-    let port = port_seen c.self.inside in
-    let new = c.promise.new.self in
-    subst (λ (seen : PortState). new ≡ with_room (with_pages c.args.pair.now (other_side seen.side) (pages_of new (other_side seen.side))) seen.side (unused_of seen - unused_of seen)) c.self.view_is
-    (rest_kept c.args.pair.now c.promise_entry.new.pair new port.side (unused_of port - unused_of port) c.promise_entry.ensures.rest c.in_err-promise.ensures.err (omega arith))
-
 pub returns-clause-after : goal.returns-clause-after
 returns-clause-after c = ap (with_sending (port_seen c.self.inside)) (sent (goal.at.returns-clause-after c).After-down) ∙ ap down_begun c.self.view_is
 
-pub returns-clause-rest : goal.returns-clause-rest
-returns-clause-rest c =
-    let port = port_seen c.self.inside in
-    let here = (goal.at.returns-clause-rest c).After-down in
-    begins_rest port (down_begun port).sending (GoesDown ∷ []) c.args.pair.now c.promise_entry.new.pair c.promise.new.self 4 (begins here)
-    ∙ ap (λ (sending : Sending). with_room (with_pages c.args.pair.now (other_side port.side) (pages_of c.promise.new.self (other_side port.side))) port.side (unused_of (with_sending port sending) - unused_of port)) (sym (sent here))
-    ∙ ap (λ (seen : PortState). with_room (with_pages c.args.pair.now (other_side seen.side) (pages_of c.promise.new.self (other_side seen.side))) seen.side (unused_of (with_sending port c.down.new.self.sending) - unused_of seen)) c.self.view_is
+pub returns-then-not-has_numbers-clause-promises : goal.returns-then-not-has_numbers-clause-promises
+returns-then-not-has_numbers-clause-promises c =
+    let port = c.args.self.now in
+    let pair = c.args.pair.now in
+    record {
+      rest = rest_kept pair pair pair port.side (unused_of port - unused_of port) (pages_same pair (other_side port.side)) refl (omega arith);
+      pages = grows_nothing (TouchesLeft port.plan port.side (writes_left (down_begun port))) (pages_of pair (other_side port.side));
+      ready = tt;
+    }
 
-pub returns-clause-pages : goal.returns-clause-pages
-returns-clause-pages c =
+pub returns-in_err-promise_entry-clause-promises : goal.returns-in_err-promise_entry-clause-promises
+returns-in_err-promise_entry-clause-promises c =
     let port = port_seen c.self.inside in
-    subst (λ (port : PortState). PagesGrow (TouchesLeft port.plan port.side (writes_left (down_begun port))) (pages_of c.args.pair.now (other_side port.side)) (pages_of c.promise.new.self (other_side port.side))) c.self.view_is
-    (begins_pages port (down_begun port).sending (GoesDown ∷ []) c.args.pair.now c.promise_entry.new.pair c.promise.new.self 4 (begins (goal.at.returns-clause-pages c).After-down))
+    let pair = c.args.pair.now in
+    let new = c.promise_entry.new.pair in
+    let idle : is_busy port.sending ≡ false = ap (λ (port : PortState). is_busy port.sending) c.self.view_is ∙ c.requires.idle in
+    record {
+      rest = subst (λ (seen : PortState). IsGrown seen seen pair new) c.self.view_is (rest_kept pair new new port.side (unused_of port - unused_of port) c.promise_entry.ensures.rest refl (omega arith));
+      pages =
+          subst (λ (seen : PortState). PagesGrow (TouchesLeft seen.plan seen.side (writes_left (down_begun seen))) (pages_of pair (other_side seen.side)) (pages_of new (other_side seen.side))) c.self.view_is
+          (down_grows port _ _ c.begun-from.result idle c.begun-from.ensures.value c.promise_entry.ensures.pages);
+      ready = first_of (search rules, grind (arith, common_steps));
+    }
 
-pub returns-clause-ready : goal.returns-clause-ready
-returns-clause-ready c =
+pub returns-in_err-promise-clause-promises : goal.returns-in_err-promise-clause-promises
+returns-in_err-promise-clause-promises c =
     let port = port_seen c.self.inside in
-    let here = (goal.at.returns-clause-ready c).After-down in
-    λ ready. subst (λ (sending : Sending). HasPagesIn (with_sending port sending) c.promise.new.self) (sym (sent here))
-    (begins_ready port (down_begun port).sending (GoesDown ∷ []) c.args.pair.now c.promise_entry.new.pair c.promise.new.self 4 (begins here) (subst (λ (port : PortState). HasPagesIn port c.args.pair.now) (sym c.self.view_is) ready))
+    let pair = c.args.pair.now in
+    let new = c.promise.new.self in
+    let idle : is_busy port.sending ≡ false = ap (λ (port : PortState). is_busy port.sending) c.self.view_is ∙ c.requires.idle in
+    let same : pages_of c.promise_entry.new.pair (other_side port.side) ≡ pages_of new (other_side port.side) = sym (ap (λ (bridge : Bridge). pages_of bridge (other_side port.side)) c.in_err-promise.ensures.err) in
+    record {
+      rest = subst (λ (seen : PortState). IsGrown seen seen pair new) c.self.view_is (rest_kept pair c.promise_entry.new.pair new port.side (unused_of port - unused_of port) c.promise_entry.ensures.rest c.in_err-promise.ensures.err (omega arith));
+      pages =
+          subst (λ (seen : PortState). PagesGrow (TouchesLeft seen.plan seen.side (writes_left (down_begun seen))) (pages_of pair (other_side seen.side)) (pages_of new (other_side seen.side))) c.self.view_is
+          (subst (λ pages. PagesGrow (TouchesLeft port.plan port.side (writes_left (down_begun port))) (pages_of pair (other_side port.side)) pages) same
+          (down_grows port _ _ c.begun-from.result idle c.begun-from.ensures.value c.promise_entry.ensures.pages));
+      ready = first_of (search rules, grind (arith, common_steps));
+    }
+
+pub returns-clause-promises : goal.returns-clause-promises
+returns-clause-promises c =
+    let port = port_seen c.self.inside in
+    let pair = c.args.pair.now in
+    let new = c.promise.new.self in
+    let here = (goal.at.returns-clause-promises c).After-down in
+    record {
+      rest =
+          begins_rest port (down_begun port).sending (GoesDown ∷ []) pair c.promise_entry.new.pair new 4 (begins here)
+          ∙ ap (λ (sending : Sending). with_room (with_pages pair (other_side port.side) (pages_of new (other_side port.side))) port.side (unused_of (with_sending port sending) - unused_of port)) (sym (sent here))
+          ∙ ap (λ (seen : PortState). with_room (with_pages pair (other_side seen.side) (pages_of new (other_side seen.side))) seen.side (unused_of (with_sending port c.down.new.self.sending) - unused_of seen)) c.self.view_is;
+      pages =
+          subst (λ (seen : PortState). PagesGrow (TouchesLeft seen.plan seen.side (writes_left (down_begun seen))) (pages_of pair (other_side seen.side)) (pages_of new (other_side seen.side))) c.self.view_is
+          (begins_pages port (down_begun port).sending (GoesDown ∷ []) pair c.promise_entry.new.pair new 4 (begins here));
+      ready = λ ready.
+          subst (λ (sending : Sending). HasPagesIn (with_sending port sending) new) (sym (sent here))
+          (begins_ready port (down_begun port).sending (GoesDown ∷ []) pair c.promise_entry.new.pair new 4 (begins here) (subst (λ (port : PortState). HasPagesIn port pair) (sym c.self.view_is) ready));
+    }

@@ -1,4 +1,5 @@
-use Rattle.std.proofs.Common.{◌∙◌, ◌+◌, ap, sym, subst}
+use Rattle.std.proofs.Common.{◌∙◌, ◌+◌, ap, sym, subst, rules, arith}
+use Rattle.std.proofs.lemmas.Grind.{common_steps}
 use Rattle.pair_model.specs.Addresses.{own_header}
 use Rattle.pair_model.specs.Headers.{flags_offset}
 use Rattle.host_memory.specs.Memory.{ArePromised}
@@ -18,11 +19,17 @@ clear_flags-requires-clause-promised c =
     subst (λ n. ArePromised (own_header port.plan port.side port.queue n + flags_offset port.plan) 4 (pages_of pair port.side)) (sym c.last_got-number.ensures)
     (copied_flags port _ _ (ap is_copied (sym c.phase.ensures ∙ c.in-Copied.is)) (pages_seen port c.args.self.now pair c.self.view_is c.requires.pages))
 
-pub returns-clause-ready : goal.returns-clause-ready
-returns-clause-ready c =
+pub returns : goal.returns
+returns c =
     let port = port_seen c.self.inside in
     let pair = c.args.pair.now in
     let own = ap (λ (bridge : Bridge). pages_of bridge port.side) c.clear_flags.ensures ∙ pages_with_bytes pair port.side port.side _ in
     let peer = ap (λ (bridge : Bridge). pages_of bridge (other_side port.side)) c.clear_flags.ensures ∙ pages_with_bytes pair port.side (other_side port.side) _ in
-    subst (λ (receiving : Receiving). HasPages (with_receiving port receiving) (pages_of c.clear_flags.new.pair port.side) (pages_of c.clear_flags.new.pair (other_side port.side))) (sym c.cleared.ensures)
-    (rw (own, peer) (cleared_ready port _ _ (ap is_copied (sym c.phase.ensures ∙ c.in-Copied.is)) (pages_seen port c.args.self.now pair c.self.view_is c.requires.pages)))
+    record {
+      answer = first_of (search rules, grind (arith, common_steps));
+      after = first_of (search rules, grind (arith, common_steps));
+      pair = first_of (search rules, grind (arith, common_steps));
+      ready =
+          subst (λ (receiving : Receiving). HasPages (with_receiving port receiving) (pages_of c.clear_flags.new.pair port.side) (pages_of c.clear_flags.new.pair (other_side port.side))) (sym c.cleared.ensures)
+          (rw (own, peer) (cleared_ready port _ _ (ap is_copied (sym c.phase.ensures ∙ c.in-Copied.is)) (pages_seen port c.args.self.now pair c.self.view_is c.requires.pages)));
+    }

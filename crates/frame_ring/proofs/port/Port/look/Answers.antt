@@ -1,4 +1,5 @@
-use Rattle.std.proofs.Common.{◌≡◌, ◌∙◌, ℕ, ◌+◌, ◌-◌, ◌≤◌, true, false, length, refl, ap, sym, subst, arith}
+use Rattle.std.proofs.Common.{◌≡◌, ◌∙◌, ℕ, ◌+◌, ◌-◌, ◌≤◌, true, false, Ok, length, refl, ap, sym, subst, arith, rules}
+use Rattle.std.proofs.lemmas.Grind.{common_steps}
 use Rattle.pair_model.specs.Headers.{Header, found_with, header_in}
 use Rattle.lane_model.specs.Tests.{is_idle}
 use Rattle.lane_model.specs.declared.Phase.TheVariants.{Copying}
@@ -6,13 +7,15 @@ use Rattle.pair_model.specs.Sizes.{layout_to, sizes_in}
 use Rattle.ring_geometry.specs.Geometry.{max_payload_of}
 use Rattle.step_kinds.specs.Limits.{most_frame_bytes}
 use Rattle.step_kinds.specs.Sides.{other_side}
-use Rattle.bridge_pair.specs.Bridge.{pages_of}
+use Rattle.bridge_pair.specs.Bridge.{Bridge, pages_of}
 use Rattle.bridge_pair.proofs.Facade.{grows_nothing}
 use Rattle.frame_ring.specs.Calls.{FindsEntry, TouchedByFlags, TouchedByLook, after_look, found_seen, look_answer, look_found}
 use Rattle.frame_ring.specs.Port.{PortState, unused_of, with_receiving}
+use Rattle.frame_ring.specs.PortCalls.{HasPromisedBoth}
 use Rattle.frame_ring.specs.Ports.{port_seen}
 use Rattle.frame_ring.specs.Rings.{header_of}
 use Rattle.frame_ring.specs.PortView.{bytes_seen}
+use Rattle.frame_ring.specs.declared.RingLook.{RingLook}
 use Rattle.frame_ring.specs.declared.RingLook.TheVariants.{Ready}
 use Rattle.frame_ring.proofs.PromisesOfLook.{finds, flags_touch, look_touches, on_err}
 use Rattle.frame_ring.proofs.LookAnswers.{entry_short, look_is, not_idle, nothing_more, out_of_turn, stands_at, stays_at}
@@ -57,6 +60,15 @@ found c number len is =
     let at : FindsEntry port c.args.pair.now = finds port c.args.pair.now (found_seen port c.args.pair.now) number len (idle c) refl (ready c number len is) in
     subst (λ (port : PortState). FindsEntry port c.args.pair.now) c.self.view_is at
 
+-- a look that finds nothing promises nothing
+no_promises : {E : Type 0} {look : RingLook} (port : PortState) (bridge : Bridge) → HasPromisedBoth {E = E} (TouchedByLook port bridge) (TouchedByFlags port bridge) port port bridge bridge (Ok look)
+no_promises port bridge = record {
+  rest = nothing_more bridge port.side (unused_of port - unused_of port) (omega arith);
+  pages = grows_nothing (TouchedByLook port bridge) (pages_of bridge (other_side port.side));
+  flags = grows_nothing (TouchedByFlags port bridge) (pages_of bridge port.side);
+  ready = λ ready. ready;
+}
+
 pub returns-in_default : goal.returns-in_default
 returns-in_default c =
     let port = c.args.self.now in
@@ -68,10 +80,7 @@ returns-in_default c =
       after = turn.1;
       err = tt;
       wants = tt;
-      rest = nothing_more bridge port.side (unused_of port - unused_of port) (omega arith);
-      pages = grows_nothing (TouchedByLook port bridge) (pages_of bridge (other_side port.side));
-      flags = grows_nothing (TouchedByFlags port bridge) (pages_of bridge port.side);
-      ready = λ ready. ready;
+      promises = no_promises port bridge;
     }
 
 pub returns-in_default-sight : goal.returns-in_default-sight
@@ -84,37 +93,45 @@ returns-in_default-sight c =
       after = subst (λ (port : PortState). port ≡ after_look port bridge) c.self.view_is (stays_at (port_seen c.self.inside) bridge c.sight.result (idle here) (told here) c.in_default-sight.not-Ready);
       err = tt;
       wants = tt;
-      rest = nothing_more bridge port.side (unused_of port - unused_of port) (omega arith);
-      pages = grows_nothing (TouchedByLook port bridge) (pages_of bridge (other_side port.side));
-      flags = grows_nothing (TouchedByFlags port bridge) (pages_of bridge port.side);
-      ready = λ ready. ready;
+      promises = no_promises port bridge;
     }
 
-pub returns-in_ok-stand_at-in-Ready-clause-answer : goal.returns-in_ok-stand_at-in-Ready-clause-answer
-returns-in_ok-stand_at-in-Ready-clause-answer c =
-    let here = (goal.at.returns-in_ok-stand_at-in-Ready-clause-answer c).After-sight in
-    subst (λ (port : PortState). Ready c.in-Ready.number c.in-Ready.len ≡ look_answer port c.args.pair.now) c.self.view_is
-    (look_is (port_seen c.self.inside) c.args.pair.now (Ready c.in-Ready.number c.in-Ready.len) (idle here) (ready here c.in-Ready.number c.in-Ready.len c.in-Ready.is))
-
-pub returns-in_ok-stand_at-in-Ready-clause-after : goal.returns-in_ok-stand_at-in-Ready-clause-after
-returns-in_ok-stand_at-in-Ready-clause-after c =
-    let here = (goal.at.returns-in_ok-stand_at-in-Ready-clause-after c).After-sight in
+pub returns-in_ok-stand_at-in-Ready : goal.returns-in_ok-stand_at-in-Ready
+returns-in_ok-stand_at-in-Ready c =
+    let here = (goal.at.returns-in_ok-stand_at-in-Ready c).After-sight in
+    let says = ready here c.in-Ready.number c.in-Ready.len c.in-Ready.is in
     let left = ap (λ (header : Header). header.left) (header here) in
-    c.in_ok-stand_at-in-Ready.ensures.after
-    ∙ subst (λ (port : PortState). with_receiving port (record port.receiving { phase = Copying; part = 0; len = c.in-Ready.len; left = c.header-header.result.left }) ≡ after_look port c.args.pair.now) c.self.view_is
-    (stands_at (port_seen c.self.inside) c.args.pair.now c.in-Ready.number c.in-Ready.len c.header-header.result.left (idle here) (ready here c.in-Ready.number c.in-Ready.len c.in-Ready.is) left)
+    let at = found here c.in-Ready.number c.in-Ready.len c.in-Ready.is in
+    record {
+      answer =
+          subst (λ (port : PortState). Ready c.in-Ready.number c.in-Ready.len ≡ look_answer port c.args.pair.now) c.self.view_is
+          (look_is (port_seen c.self.inside) c.args.pair.now (Ready c.in-Ready.number c.in-Ready.len) (idle here) says);
+      after =
+          c.in_ok-stand_at-in-Ready.ensures.after
+          ∙ subst (λ (port : PortState). with_receiving port (record port.receiving { phase = Copying; part = 0; len = c.in-Ready.len; left = c.header-header.result.left }) ≡ after_look port c.args.pair.now) c.self.view_is
+          (stands_at (port_seen c.self.inside) c.args.pair.now c.in-Ready.number c.in-Ready.len c.header-header.result.left (idle here) says left);
+      err = tt;
+      wants = tt;
+      promises = record {
+        rest = c.stand_at.ensures.promises.rest;
+        pages = look_touches c.args.self.now c.args.pair.now _ _ at c.stand_at.ensures.promises.pages;
+        flags = flags_touch c.args.self.now c.args.pair.now _ _ at c.stand_at.ensures.promises.flags;
+        ready = c.in_ok-stand_at-in-Ready.ensures.promises.ready;
+      };
+    }
 
-pub returns-in_err-stand_at-in-Ready-clause-wants : goal.returns-in_err-stand_at-in-Ready-clause-wants
-returns-in_err-stand_at-in-Ready-clause-wants c = on_err _ (found (goal.at.returns-in_err-stand_at-in-Ready-clause-wants c).After-sight c.in-Ready.number c.in-Ready.len c.in-Ready.is)
-
-pub returns-in_err-stand_at-in-Ready-clause-pages : goal.returns-in_err-stand_at-in-Ready-clause-pages
-returns-in_err-stand_at-in-Ready-clause-pages c = look_touches c.args.self.now c.args.pair.now _ _ (found (goal.at.returns-in_err-stand_at-in-Ready-clause-pages c).After-sight c.in-Ready.number c.in-Ready.len c.in-Ready.is) c.stand_at.ensures.pages
-
-pub returns-in_err-stand_at-in-Ready-clause-flags : goal.returns-in_err-stand_at-in-Ready-clause-flags
-returns-in_err-stand_at-in-Ready-clause-flags c = flags_touch c.args.self.now c.args.pair.now _ _ (found (goal.at.returns-in_err-stand_at-in-Ready-clause-flags c).After-sight c.in-Ready.number c.in-Ready.len c.in-Ready.is) c.stand_at.ensures.flags
-
-pub returns-in_ok-stand_at-in-Ready-clause-pages : goal.returns-in_ok-stand_at-in-Ready-clause-pages
-returns-in_ok-stand_at-in-Ready-clause-pages c = look_touches c.args.self.now c.args.pair.now _ _ (found (goal.at.returns-in_ok-stand_at-in-Ready-clause-pages c).After-sight c.in-Ready.number c.in-Ready.len c.in-Ready.is) c.stand_at.ensures.pages
-
-pub returns-in_ok-stand_at-in-Ready-clause-flags : goal.returns-in_ok-stand_at-in-Ready-clause-flags
-returns-in_ok-stand_at-in-Ready-clause-flags c = flags_touch c.args.self.now c.args.pair.now _ _ (found (goal.at.returns-in_ok-stand_at-in-Ready-clause-flags c).After-sight c.in-Ready.number c.in-Ready.len c.in-Ready.is) c.stand_at.ensures.flags
+pub returns-in_err-stand_at-in-Ready : goal.returns-in_err-stand_at-in-Ready
+returns-in_err-stand_at-in-Ready c =
+    let at = found (goal.at.returns-in_err-stand_at-in-Ready c).After-sight c.in-Ready.number c.in-Ready.len c.in-Ready.is in
+    record {
+      answer = first_of (search rules, grind (arith, common_steps));
+      after = first_of (search rules, grind (arith, common_steps));
+      err = on_err _ c.in_err-stand_at-in-Ready.ensures.err;
+      wants = on_err _ at;
+      promises = record {
+        rest = c.stand_at.ensures.promises.rest;
+        pages = look_touches c.args.self.now c.args.pair.now _ _ at c.stand_at.ensures.promises.pages;
+        flags = flags_touch c.args.self.now c.args.pair.now _ _ at c.stand_at.ensures.promises.flags;
+        ready = first_of (search rules, grind (arith, common_steps));
+      };
+    }

@@ -2,9 +2,10 @@ use Rattle.std.proofs.Common.{◌≡◌, ◌∙◌, ◌+◌, ◌≤◌, ℕ, Opt
 use Rattle.step_kinds.specs.Sides.{other_side}
 use Rattle.step_kinds.specs.declared.steps.Label.{Label}
 use Rattle.bridge_pair.specs.Bridge.{Bridge, flight_of, pages_of}
-use Rattle.frame_ring.specs.Calls.{after_post, first_label, let_go, next_begun, posted_by, rest_of}
+use Rattle.frame_ring.specs.Calls.{after_post, first_label, let_go, next_begun, post_answer, posted_by, rest_of}
 use Rattle.frame_ring.specs.Outgoing.{Outgoing, with_progress}
 use Rattle.frame_ring.specs.Port.{PortState, Sending, unused_of, with_sending}
+use Rattle.frame_ring.specs.PortCalls.{KeepsSpare}
 use Rattle.frame_ring.specs.Ports.{port_seen}
 use Rattle.frame_ring.specs.PortView.{HasPages, IsLeftReady, ring_posted}
 use Rattle.frame_ring.proofs.Ready.{first_posted_is, first_ready, none_posted_is, pages_posted, pages_seen, post_ready}
@@ -37,53 +38,48 @@ post_write-requires-clause-pages c =
     subst (λ (sending : Sending). IsLeftReady port.plan port.side peer (record { entry = sending.entry; label = c.in-Some.label })) (sym next)
     (first_ready (IsLeftReady port.plan port.side peer) port.queue port.sending c.in-Some.label is ready.writes)
 
-pub returns-clause-pair : goal.returns-clause-pair
-returns-clause-pair c =
+pub returns : goal.returns
+returns c =
     let port = port_seen c.self.inside in
     let pair = c.args.pair.now in
     let next : c.advance.new.self.sending ≡ next_begun port.queue port.sending = moved c.self.inside.sender c.advance.new.self port.queue c.advance.ensures c.self.invariant.queue in
-    let label = labelled c.self.inside.sender c.advance.new.self port.queue _ c.advance.ensures c.self.invariant.queue c.label-label.ensures.value in
-    elim c.match-label.branch [
+    let label : c.label-label.result ≡ post_answer port = labelled c.self.inside.sender c.advance.new.self port.queue _ c.advance.ensures c.self.invariant.queue c.label-label.ensures.value in
+    let goes : c.posted.new.self.sending ≡ (after_post port).sending = posted c.self.inside.sender c.advance.new.self c.posted.new.self port.queue c.advance.ensures c.self.invariant.queue c.posted.ensures in
+    let went : c.match-label.pair ≡ posted_by port pair = elim c.match-label.branch [
       | in-Some w ↦
           w.pair-is ∙ w.post_write.ensures
           ∙ ap (λ (sending : Sending). ring_posted pair port.side sending.entry w.in-Some.label) next
           ∙ sym (first_posted_is pair port.side (next_begun port.queue port.sending).entry (next_begun port.queue port.sending).todo w.in-Some.label (sym w.in-Some.is ∙ label))
-          ∙ ap (λ (port : PortState). posted_by port pair) c.self.view_is
       | in-None w ↦
           w.pair-is
           ∙ sym (none_posted_is pair port.side (next_begun port.queue port.sending).entry (next_begun port.queue port.sending).todo (sym w.in-None.is ∙ label))
-          ∙ ap (λ (port : PortState). posted_by port pair) c.self.view_is
-    ]
-
-pub returns-clause-ready : goal.returns-clause-ready
-returns-clause-ready c =
-    let port = port_seen c.self.inside in
-    let pair = c.args.pair.now in
-    let ready = pages_seen port c.args.self.now pair c.self.view_is c.requires.pages in
-    let goes : c.posted.new.self.sending ≡ (after_post port).sending = posted c.self.inside.sender c.advance.new.self c.posted.new.self port.queue c.advance.ensures c.self.invariant.queue c.posted.ensures in
-    let now : c.match-label.pair ≡ posted_by port pair = returns-clause-pair c ∙ sym (ap (λ (port : PortState). posted_by port pair) c.self.view_is) in
-    let own = ap (λ (bridge : Bridge). pages_of bridge port.side) now ∙ pages_posted port pair port.side in
-    let peer = ap (λ (bridge : Bridge). pages_of bridge (other_side port.side)) now ∙ pages_posted port pair (other_side port.side) in
-    subst (λ (sending : Sending). HasPages (with_sending port sending) (pages_of c.match-label.pair port.side) (pages_of c.match-label.pair (other_side port.side))) (sym goes)
-    (rw (own, peer) (post_ready port (pages_of pair port.side) (pages_of pair (other_side port.side)) ready))
-
-pub returns-clause-spare : goal.returns-clause-spare
-returns-clause-spare c =
-    let port = port_seen c.self.inside in
-    let pair = c.args.pair.now in
-    let label = labelled c.self.inside.sender c.advance.new.self port.queue _ c.advance.ensures c.self.invariant.queue c.label-label.ensures.value in
-    let goes : c.posted.new.self.sending ≡ (after_post port).sending = posted c.self.inside.sender c.advance.new.self c.posted.new.self port.queue c.advance.ensures c.self.invariant.queue c.posted.ensures in
-    let after : unused_of (with_sending port c.posted.new.self.sending) ≡ unused_of (after_post port) = ap (λ (sending : Sending). unused_of (with_sending port sending)) goes in
+    ] in
+    let told : c.match-label.label ≡ post_answer port = elim c.match-label.branch [
+      | in-Some w ↦ w.label-is ∙ sym w.in-Some.is ∙ label
+      | in-None w ↦ w.label-is ∙ label
+    ] in
+    let unused : unused_of (with_sending port c.posted.new.self.sending) ≡ unused_of (after_post port) = ap (λ (sending : Sending). unused_of (with_sending port sending)) goes in
     let room : unused_of port ≤ (flight_of pair port.side).spare = subst (λ (port : PortState). unused_of port ≤ (flight_of pair port.side).spare) (sym c.self.view_is) c.requires.room in
-    subst (λ (seen : PortState). (flight_of c.match-label.pair seen.side).spare + unused_of seen ≡ (flight_of pair seen.side).spare + unused_of (with_sending port c.posted.new.self.sending)) c.self.view_is
-    (elim c.match-label.branch [
+    let spare : KeepsSpare port (with_sending port c.posted.new.self.sending) pair c.match-label.pair = elim c.match-label.branch [
       | in-Some w ↦ omega (
         arith,
-        after,
+        unused,
         room,
         unused_posted port w.in-Some.label (sym w.in-Some.is ∙ label),
         ap (λ (bridge : Bridge). (flight_of bridge port.side).spare) (w.pair-is ∙ w.post_write.ensures),
         spare_of_write pair port.side c.advance.new.self.queue c.advance.new.self.sending.entry w.in-Some.label w.in-Some.ensures.of_entry,
       )
-      | in-None w ↦ omega (arith, after, unused_same port (sym w.in-None.is ∙ label), ap (λ (bridge : Bridge). (flight_of bridge port.side).spare) w.pair-is)
-    ])
+      | in-None w ↦ omega (arith, unused, unused_same port (sym w.in-None.is ∙ label), ap (λ (bridge : Bridge). (flight_of bridge port.side).spare) w.pair-is)
+    ] in
+    let own = ap (λ (bridge : Bridge). pages_of bridge port.side) went ∙ pages_posted port pair port.side in
+    let peer = ap (λ (bridge : Bridge). pages_of bridge (other_side port.side)) went ∙ pages_posted port pair (other_side port.side) in
+    let ready = pages_seen port c.args.self.now pair c.self.view_is c.requires.pages in
+    record {
+      answer = told ∙ ap (λ (port : PortState). post_answer port) c.self.view_is;
+      after = ap (with_sending port) goes ∙ ap (λ (port : PortState). after_post port) c.self.view_is;
+      pair = went ∙ ap (λ (port : PortState). posted_by port pair) c.self.view_is;
+      spare = subst (λ (old : PortState). KeepsSpare old (with_sending port c.posted.new.self.sending) pair c.match-label.pair) c.self.view_is spare;
+      ready =
+          subst (λ (sending : Sending). HasPages (with_sending port sending) (pages_of c.match-label.pair port.side) (pages_of c.match-label.pair (other_side port.side))) (sym goes)
+          (rw (own, peer) (post_ready port (pages_of pair port.side) (pages_of pair (other_side port.side)) ready));
+    }

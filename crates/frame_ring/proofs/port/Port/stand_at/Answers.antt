@@ -1,4 +1,5 @@
-use Rattle.std.proofs.Common.{◌≡◌, ◌∙◌, true, ℕ, ◌+◌, ◌-◌, ◌≤◌, OnOk, length, refl, ap, sym, subst, arith}
+use Rattle.std.proofs.Common.{◌≡◌, ◌∙◌, true, ℕ, ◌+◌, ◌-◌, ◌≤◌, List, OnOk, length, refl, ap, sym, subst, arith, rules}
+use Rattle.std.proofs.lemmas.Grind.{common_steps}
 use Rattle.pair_model.specs.Addresses.{own_header}
 use Rattle.pair_model.specs.Headers.{flags_offset}
 use Rattle.pair_model.specs.RingWrites.{index_write}
@@ -16,6 +17,7 @@ use Rattle.bridge_pair.specs.Pages.{PagesGrow}
 use Rattle.pair_model.specs.Sizes.{layout_of, layout_to}
 use Rattle.ring_geometry.specs.Geometry.{index_of}
 use Rattle.frame_ring.specs.Port.{PortState, Receiving, unused_of, with_receiving}
+use Rattle.frame_ring.specs.PortCalls.{IsGrownBoth}
 use Rattle.frame_ring.specs.Ports.{port_seen}
 use Rattle.frame_ring.specs.Promises.{TouchesRange}
 use Rattle.frame_ring.specs.PortView.{HasPagesIn, TouchesWrite, with_room}
@@ -26,17 +28,12 @@ use Rattle.frame_ring.proofs.LookAnswers.{nothing_more}
 use Rattle.frame_ring.proofs.port.Port.stand_at.Goals as goal
 use Rattle.frame_ring.proofs.port.Port.stand_at.Goals.{After-find, After-promise_flags}
 
-pub returns-in_err-promise_index_word-clause-pages : goal.returns-in_err-promise_index_word-clause-pages
-returns-in_err-promise_index_word-clause-pages c =
-    subst (λ (port : PortState). PagesGrow (TouchesWrite port.plan port.side (index_write port.plan port.side port.queue port.receiving.got)) (pages_of c.args.pair.now (other_side port.side)) (pages_of c.promise_index_word.new.pair (other_side port.side))) c.self.view_is c.promise_index_word.ensures.pages
+-- the pages that the index write and the flags of the entry at hand need
+abbrev GrowsByIndex : PortState → List ℕ → List ℕ → Type 0
+GrowsByIndex port old new = PagesGrow (TouchesWrite port.plan port.side (index_write port.plan port.side port.queue port.receiving.got)) old new
 
-pub returns-in_err-promise_flags-clause-pages : goal.returns-in_err-promise_flags-clause-pages
-returns-in_err-promise_flags-clause-pages c =
-    let port = port_seen c.self.inside in
-    let peer : pages_of c.promise_flags.new.pair (other_side port.side) ≡ pages_of c.promise_index_word.new.pair (other_side port.side) =
-    ap (λ (bridge : Bridge). pages_of bridge (other_side port.side)) c.promise_flags.ensures.rest ∙ peer_pages c.promise_index_word.new.pair port.side _ in
-    subst (λ (port : PortState). PagesGrow (TouchesWrite port.plan port.side (index_write port.plan port.side port.queue port.receiving.got)) (pages_of c.args.pair.now (other_side port.side)) (pages_of c.promise_flags.new.pair (other_side port.side))) c.self.view_is
-    (subst (λ pages. PagesGrow (TouchesWrite port.plan port.side (index_write port.plan port.side port.queue port.receiving.got)) (pages_of c.args.pair.now (other_side port.side)) pages) (sym peer) c.promise_index_word.ensures.pages)
+abbrev GrowsByFlags : PortState → List ℕ → List ℕ → Type 0
+GrowsByFlags port old new = PagesGrow (Touches (own_header port.plan port.side port.queue port.receiving.got + flags_offset port.plan) 4) old new
 
 -- with the receiver's room alone room was promised on the bridge, and no page more
 room_is : (c : After-find) → OnOk c.find.result (c.find.new.pair ≡ with_room c.promise_flags.new.pair (port_seen c.self.inside).side 1)
@@ -48,94 +45,98 @@ peer_is c =
     either_pages c.find.result c.promise_flags.new.pair c.find.new.pair port.side (other_side port.side) (room_is c) c.find.ensures.same
     ∙ ap (λ (bridge : Bridge). pages_of bridge (other_side port.side)) c.promise_flags.ensures.rest ∙ peer_pages c.promise_index_word.new.pair port.side _
 
-pub returns-clause-pages : goal.returns-clause-pages
-returns-clause-pages c =
-    let port = port_seen c.self.inside in
-    subst (λ (port : PortState). PagesGrow (TouchesWrite port.plan port.side (index_write port.plan port.side port.queue port.receiving.got)) (pages_of c.args.pair.now (other_side port.side)) (pages_of c.find.new.pair (other_side port.side))) c.self.view_is
-    (subst (λ pages. PagesGrow (TouchesWrite port.plan port.side (index_write port.plan port.side port.queue port.receiving.got)) (pages_of c.args.pair.now (other_side port.side)) pages) (sym (peer_is (goal.at.returns-clause-pages c).After-find)) c.promise_index_word.ensures.pages)
-
-pub returns-clause-ready : goal.returns-clause-ready
-returns-clause-ready c =
-    let port = port_seen c.self.inside in
-    let here = (goal.at.returns-clause-ready c).After-find in
-    let peer = peer_is here in
-    let own : pages_of c.find.new.pair port.side ≡ pages_of c.promise_flags.new.pair port.side = either_pages c.find.result c.promise_flags.new.pair c.find.new.pair port.side port.side (room_is here) c.find.ensures.same in
-    let flags = subst (λ n. ArePromised (own_header port.plan port.side port.queue n + flags_offset port.plan) 4 (pages_of c.promise_flags.new.pair port.side)) c.got-got.ensures.value c.in_ok-promise_flags.ensures.ok in
-    ok_map (c.find.new.self ≡ record port.receiving { phase = Copying; part = 0; len = c.args.len; left = c.args.left }) (HasPagesIn c.args.self.now c.args.pair.now → HasPagesIn (with_receiving port c.find.new.self) c.find.new.pair) c.find.result
-    (λ found ready.
-    (let before : HasPagesIn port c.args.pair.now = subst (λ (port : PortState). HasPagesIn port c.args.pair.now) (sym c.self.view_is) ready in
-    subst (λ (receiving : Receiving). HasPagesIn (with_receiving port receiving) c.find.new.pair) (sym found)
-    (found_ready port c.args.len c.args.left (pages_of c.args.pair.now port.side) (pages_of c.args.pair.now (other_side port.side)) (pages_of c.find.new.pair port.side) (pages_of c.find.new.pair (other_side port.side))
-    (TouchesRange c.self.inside.rings (index_of (layout_of port.plan port.side port.queue)) 4)
-    (subst (λ pages. PagesGrow (TouchesRange c.self.inside.rings (index_of (layout_of port.plan port.side port.queue)) 4) (pages_of c.args.pair.now (other_side port.side)) pages) (sym peer) c.promise_index_word.ensures.pages)
-    (subst (λ pages. ArePromised (own_header port.plan port.side port.queue port.receiving.got + flags_offset port.plan) 4 pages) (sym own) flags)
-    (rw peer c.in_ok-promise_index_word.ensures.ok) before)))
-    c.find.ensures.ok
-
--- Promised pages of the side's own
-
-pub returns-in_err-promise_index_word-clause-flags : goal.returns-in_err-promise_index_word-clause-flags
-returns-in_err-promise_index_word-clause-flags c =
-    let port = port_seen c.self.inside in
-    let touched : ℕ → Type 0 = Touches (own_header port.plan port.side port.queue port.receiving.got + flags_offset port.plan) 4 in
-    let same = own_still c.args.pair.now c.promise_index_word.new.pair port.side c.promise_index_word.ensures.rest in
-    subst (λ (seen : PortState). PagesGrow (Touches (own_header seen.plan seen.side seen.queue seen.receiving.got + flags_offset seen.plan) 4) (pages_of c.args.pair.now seen.side) (pages_of c.promise_index_word.new.pair seen.side)) c.self.view_is
-    (subst (λ pages. PagesGrow touched (pages_of c.args.pair.now port.side) pages) (sym same) (grows_nothing touched (pages_of c.args.pair.now port.side)))
-
--- those that grew by the flags alone
-flags_grown : (c : After-promise_flags)
-    → PagesGrow (Touches (own_header (port_seen c.self.inside).plan (port_seen c.self.inside).side (port_seen c.self.inside).queue (port_seen c.self.inside).receiving.got + flags_offset (port_seen c.self.inside).plan) 4)
-    (pages_of c.args.pair.now (port_seen c.self.inside).side) (pages_of c.promise_flags.new.pair (port_seen c.self.inside).side)
+-- the side's own pages grew by the flags alone
+flags_grown : (c : After-promise_flags) → GrowsByFlags (port_seen c.self.inside) (pages_of c.args.pair.now (port_seen c.self.inside).side) (pages_of c.promise_flags.new.pair (port_seen c.self.inside).side)
 flags_grown c =
     let port = port_seen c.self.inside in
     let same = own_still c.args.pair.now c.promise_index_word.new.pair port.side c.promise_index_word.ensures.rest in
-    subst (λ pages. PagesGrow (Touches (own_header port.plan port.side port.queue port.receiving.got + flags_offset port.plan) 4) pages (pages_of c.promise_flags.new.pair port.side)) same
+    subst (λ pages. GrowsByFlags port pages (pages_of c.promise_flags.new.pair port.side)) same
     (subst (λ (n : ℕ). PagesGrow (Touches (own_header port.plan port.side port.queue n + flags_offset port.plan) 4) (pages_of c.promise_index_word.new.pair port.side) (pages_of c.promise_flags.new.pair port.side)) c.got-got.ensures.value
     c.promise_flags.ensures.pages)
 
-pub returns-in_err-promise_flags-clause-flags : goal.returns-in_err-promise_flags-clause-flags
-returns-in_err-promise_flags-clause-flags c =
-    subst (λ (seen : PortState). PagesGrow (Touches (own_header seen.plan seen.side seen.queue seen.receiving.got + flags_offset seen.plan) 4) (pages_of c.args.pair.now seen.side) (pages_of c.promise_flags.new.pair seen.side)) c.self.view_is
-    (flags_grown (goal.at.returns-in_err-promise_flags-clause-flags c).After-promise_flags)
+-- What was promised, where numbers or memory ran out, and where they didn't
 
-pub returns-clause-flags : goal.returns-clause-flags
-returns-clause-flags c =
-    let port = port_seen c.self.inside in
-    let here = (goal.at.returns-clause-flags c).After-find in
-    let own : pages_of c.find.new.pair port.side ≡ pages_of c.promise_flags.new.pair port.side = either_pages c.find.result c.promise_flags.new.pair c.find.new.pair port.side port.side (room_is here) c.find.ensures.same in
-    subst (λ (seen : PortState). PagesGrow (Touches (own_header seen.plan seen.side seen.queue seen.receiving.got + flags_offset seen.plan) 4) (pages_of c.args.pair.now seen.side) (pages_of c.find.new.pair seen.side)) c.self.view_is
-    (subst (λ pages. PagesGrow (Touches (own_header port.plan port.side port.queue port.receiving.got + flags_offset port.plan) 4) (pages_of c.args.pair.now port.side) pages) (sym own)
-    (flags_grown (goal.at.returns-clause-flags c).After-promise_flags))
-
--- What else is left
-
-pub returns-then-not-has_numbers-clause-rest : goal.returns-then-not-has_numbers-clause-rest
-returns-then-not-has_numbers-clause-rest c =
+pub returns-then-not-has_numbers-clause-promises : goal.returns-then-not-has_numbers-clause-promises
+returns-then-not-has_numbers-clause-promises c =
     let port = c.args.self.now in
-    nothing_more c.args.pair.now port.side (unused_of port - unused_of port) (omega arith)
+    let pair = c.args.pair.now in
+    record {
+      rest = nothing_more pair port.side (unused_of port - unused_of port) (omega arith);
+      pages = grows_nothing _ (pages_of pair (other_side port.side));
+      flags = grows_nothing _ (pages_of pair port.side);
+      ready = tt;
+    }
 
-pub returns-in_err-promise_index_word-clause-rest : goal.returns-in_err-promise_index_word-clause-rest
-returns-in_err-promise_index_word-clause-rest c =
+pub returns-in_err-promise_index_word-clause-promises : goal.returns-in_err-promise_index_word-clause-promises
+returns-in_err-promise_index_word-clause-promises c =
     let port = port_seen c.self.inside in
+    let pair = c.args.pair.now in
     let new = c.promise_index_word.new.pair in
-    subst (λ (seen : PortState). new ≡ with_room (with_pages (with_pages c.args.pair.now (other_side seen.side) (pages_of new (other_side seen.side))) seen.side (pages_of new seen.side)) seen.side (unused_of seen - unused_of seen)) c.self.view_is
-    (pages_grown c.args.pair.now new new port.side (unused_of port - unused_of port) c.promise_index_word.ensures.rest (pages_same new port.side) (omega arith))
+    let same = own_still pair new port.side c.promise_index_word.ensures.rest in
+    record {
+      rest =
+          subst (λ (seen : PortState). IsGrownBoth seen seen pair new) c.self.view_is
+          (pages_grown pair new new port.side (unused_of port - unused_of port) c.promise_index_word.ensures.rest (pages_same new port.side) (omega arith));
+      pages = subst (λ (seen : PortState). GrowsByIndex seen (pages_of pair (other_side seen.side)) (pages_of new (other_side seen.side))) c.self.view_is c.promise_index_word.ensures.pages;
+      flags =
+          subst (λ (seen : PortState). GrowsByFlags seen (pages_of pair seen.side) (pages_of new seen.side)) c.self.view_is
+          (subst (λ pages. GrowsByFlags port (pages_of pair port.side) pages) (sym same) (grows_nothing _ (pages_of pair port.side)));
+      ready = first_of (search rules, grind (arith, common_steps));
+    }
 
-pub returns-in_err-promise_flags-clause-rest : goal.returns-in_err-promise_flags-clause-rest
-returns-in_err-promise_flags-clause-rest c =
+pub returns-in_err-promise_flags-clause-promises : goal.returns-in_err-promise_flags-clause-promises
+returns-in_err-promise_flags-clause-promises c =
     let port = port_seen c.self.inside in
+    let pair = c.args.pair.now in
     let new = c.promise_flags.new.pair in
-    subst (λ (seen : PortState). new ≡ with_room (with_pages (with_pages c.args.pair.now (other_side seen.side) (pages_of new (other_side seen.side))) seen.side (pages_of new seen.side)) seen.side (unused_of seen - unused_of seen)) c.self.view_is
-    (pages_grown c.args.pair.now c.promise_index_word.new.pair new port.side (unused_of port - unused_of port) c.promise_index_word.ensures.rest c.promise_flags.ensures.rest (omega arith))
+    let peer : pages_of new (other_side port.side) ≡ pages_of c.promise_index_word.new.pair (other_side port.side) =
+    ap (λ (bridge : Bridge). pages_of bridge (other_side port.side)) c.promise_flags.ensures.rest ∙ peer_pages c.promise_index_word.new.pair port.side _ in
+    record {
+      rest =
+          subst (λ (seen : PortState). IsGrownBoth seen seen pair new) c.self.view_is
+          (pages_grown pair c.promise_index_word.new.pair new port.side (unused_of port - unused_of port) c.promise_index_word.ensures.rest c.promise_flags.ensures.rest (omega arith));
+      pages =
+          subst (λ (seen : PortState). GrowsByIndex seen (pages_of pair (other_side seen.side)) (pages_of new (other_side seen.side))) c.self.view_is
+          (subst (λ pages. GrowsByIndex port (pages_of pair (other_side port.side)) pages) (sym peer) c.promise_index_word.ensures.pages);
+      flags =
+          subst (λ (seen : PortState). GrowsByFlags seen (pages_of pair seen.side) (pages_of new seen.side)) c.self.view_is
+          (flags_grown (goal.at.returns-in_err-promise_flags-clause-promises c).After-promise_flags);
+      ready = first_of (search rules, grind (arith, common_steps));
+    }
 
-pub returns-clause-rest : goal.returns-clause-rest
-returns-clause-rest c =
+pub returns-clause-promises : goal.returns-clause-promises
+returns-clause-promises c =
     let port = port_seen c.self.inside in
+    let pair = c.args.pair.now in
     let new = c.find.new.pair in
+    let here = (goal.at.returns-clause-promises c).After-find in
+    let peer = peer_is here in
+    let own : pages_of new port.side ≡ pages_of c.promise_flags.new.pair port.side = either_pages c.find.result c.promise_flags.new.pair new port.side port.side (room_is here) c.find.ensures.same in
     let idle : is_idle port.receiving.phase ≡ true = ap (λ (port : PortState). is_idle port.receiving.phase) c.self.view_is ∙ c.requires.idle in
-    subst (λ (seen : PortState). new ≡ with_room (with_pages (with_pages c.args.pair.now (other_side seen.side) (pages_of new (other_side seen.side))) seen.side (pages_of new seen.side)) seen.side (unused_of (with_receiving port c.find.new.self) - unused_of seen)) c.self.view_is
-    (found_grown c.find.result port (record port.receiving { phase = Copying; part = 0; len = c.args.len; left = c.args.left }) c.find.new.self c.args.pair.now c.promise_index_word.new.pair c.promise_flags.new.pair new idle refl
-    c.promise_index_word.ensures.rest c.promise_flags.ensures.rest c.find.ensures.ok c.find.ensures.err (room_is (goal.at.returns-clause-rest c).After-find) c.find.ensures.same)
+    let flags = subst (λ n. ArePromised (own_header port.plan port.side port.queue n + flags_offset port.plan) 4 (pages_of c.promise_flags.new.pair port.side)) c.got-got.ensures.value c.in_ok-promise_flags.ensures.ok in
+    record {
+      rest =
+          subst (λ (seen : PortState). IsGrownBoth seen (with_receiving port c.find.new.self) pair new) c.self.view_is
+          (found_grown c.find.result port (record port.receiving { phase = Copying; part = 0; len = c.args.len; left = c.args.left }) c.find.new.self pair c.promise_index_word.new.pair c.promise_flags.new.pair new idle refl
+          c.promise_index_word.ensures.rest c.promise_flags.ensures.rest c.find.ensures.ok c.find.ensures.err (room_is here) c.find.ensures.same);
+      pages =
+          subst (λ (seen : PortState). GrowsByIndex seen (pages_of pair (other_side seen.side)) (pages_of new (other_side seen.side))) c.self.view_is
+          (subst (λ pages. GrowsByIndex port (pages_of pair (other_side port.side)) pages) (sym peer) c.promise_index_word.ensures.pages);
+      flags =
+          subst (λ (seen : PortState). GrowsByFlags seen (pages_of pair seen.side) (pages_of new seen.side)) c.self.view_is
+          (subst (λ pages. GrowsByFlags port (pages_of pair port.side) pages) (sym own) (flags_grown (goal.at.returns-clause-promises c).After-promise_flags));
+      ready =
+          ok_map (c.find.new.self ≡ record port.receiving { phase = Copying; part = 0; len = c.args.len; left = c.args.left }) (HasPagesIn c.args.self.now pair → HasPagesIn (with_receiving port c.find.new.self) new) c.find.result
+          (λ found ready.
+          (let before : HasPagesIn port pair = subst (λ (port : PortState). HasPagesIn port pair) (sym c.self.view_is) ready in
+          subst (λ (receiving : Receiving). HasPagesIn (with_receiving port receiving) new) (sym found)
+          (found_ready port c.args.len c.args.left (pages_of pair port.side) (pages_of pair (other_side port.side)) (pages_of new port.side) (pages_of new (other_side port.side))
+          (TouchesRange c.self.inside.rings (index_of (layout_of port.plan port.side port.queue)) 4)
+          (subst (λ pages. PagesGrow (TouchesRange c.self.inside.rings (index_of (layout_of port.plan port.side port.queue)) 4) (pages_of pair (other_side port.side)) pages) (sym peer) c.promise_index_word.ensures.pages)
+          (subst (λ pages. ArePromised (own_header port.plan port.side port.queue port.receiving.got + flags_offset port.plan) 4 pages) (sym own) flags)
+          (rw peer c.in_ok-promise_index_word.ensures.ok) before)))
+          c.find.ensures.ok;
+    }
 
 pub returns-clause-after : goal.returns-clause-after
 returns-clause-after c =

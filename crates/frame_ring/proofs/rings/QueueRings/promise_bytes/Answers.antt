@@ -9,7 +9,7 @@ use Rattle.frame_ring.proofs.rings.QueueRings.promise_bytes.Goals as goal
 pub promise_range-requires : goal.promise_range-requires
 promise_range-requires c =
     let peer = c.other-peer.ensures ∙ ap other_side c.side.ensures.value in
-    lies_inside c.args.self.now c.args.pair.now c.other-peer.result c.own_address-at.result c.args.offset c.args.len c.plan-plan.ensures.law c.requires.plan peer c.requires.fit c.requires.within
+    lies_inside c.args.self.now c.args.pair.now c.other-peer.result c.own_address-at.result c.args.offset c.args.len c.law.ensures c.requires.plan peer c.requires.fit c.requires.within
     (rw c.plan.ensures at c.own_address-at.ensures.within)
 
 pub returns-clause-pages : goal.returns-clause-pages

@@ -14,7 +14,7 @@ pub promise_range-requires : goal.promise_range-requires
 promise_range-requires c =
     let rings = c.args.self.now in
     let size : length (bytes_of c.args.pair.now c.side.result) ≡ memory_size rings.plan rings.side =
-    c.plan-plan.ensures.law.memories c.side.result ∙ ap (λ (plan : PairPlan). memory_size plan c.side.result) c.requires.plan ∙ ap (memory_size rings.plan) c.side.ensures.value in
+    c.law.ensures.memories c.side.result ∙ ap (λ (plan : PairPlan). memory_size plan c.side.result) c.requires.plan ∙ ap (memory_size rings.plan) c.side.ensures.value in
     omega (arith, c.header_at.ensures.within, c.flags_offset.ensures.within, size)
 
 pub returns-clause-rest : goal.returns-clause-rest
