@@ -21,8 +21,8 @@ pub mod SameFabrics
 pub mod SameParts
 pub mod SessionTallies
 pub mod SteppedPairs
+pub mod StepsByPlace
 pub mod StepsOfFabrics
 pub mod TurnsOfPairs
 pub mod UnusedPromises
-pub mod Wants
 pub mod Whole

@@ -1,13 +1,20 @@
 -- What comes of a call on a queue, from its parts.
-use Rattle.std.proofs.Common.{◌≡◌, Result, Ok, Err, OnErr, refl}
+use Rattle.std.proofs.Common.{◌≡◌, ◌∙◌, true, List, Result, Ok, Err, OnErr, refl, ap, sym}
+use Rattle.step_kinds.specs.Answers.{is_made}
+use Rattle.step_kinds.specs.declared.places.QueueStep.{QueueStep}
+use Rattle.step_kinds.specs.declared.plan.DevPlan.{DevPlan}
 use Rattle.step_kinds.specs.declared.steps.Answer.{Answer}
+use Rattle.step_kinds.specs.declared.steps.Answer.TheVariants.{OkNumber, ReadyFrame}
 use Rattle.bridge_pair.specs.Bridge.{Bridge}
 use Rattle.frame_ring.specs.Port.{PortState}
 use Rattle.frame_ring.specs.PortView.{HasPagesIn}
 use Rattle.fabric_rule.specs.Parts.{QueuePart, plain_bridge}
 use Rattle.fabric_core.specs.Parts.{KeepsPort}
-use Rattle.fabric_core.specs.QueueCalls.{HasTurned, HasTurnedUnlessWanting}
-use Rattle.fabric_rule.specs.Turns.{QueueTurn}
+use Rattle.fabric_core.specs.Fabric.{queue_wants_memory}
+use Rattle.fabric_core.specs.QueueCalls.{HasTurned, HasTurnedUnlessWanting, IsBegun, IsFound}
+use Rattle.fabric_core.specs.StepCalls.{HasMadeOnQueue}
+use Rattle.fabric_core.specs.Wants.{MayWantOnQueue}
+use Rattle.fabric_rule.specs.Turns.{QueueTurn, queue_turn}
 
 -- A queue has taken a turn where answer, part and bridge are the turn's and its port keeps what was promised.
 pub has_turned : (turn : QueueTurn) (answer : Answer) (old new : QueuePart) (before after : Bridge) → answer ≡ turn.answer → new ≡ turn.part → after ≡ turn.bridge
@@ -51,3 +58,48 @@ wants_more {turn = turn} {result = result} more has =
       on_errs : {X E P Q : Type 0} (result : Result X E) → (P → Q) → OnErr result P → OnErr result Q
       on_errs (Ok x) f p = tt
       on_errs (Err e) f p = f p
+
+-- A step on a queue, by the turn that it takes
+
+-- a begin that is answered with a number was made, and so was a link-down entry
+pub begin_made : (answer : Answer) → IsBegun answer → is_made answer ≡ true
+begin_made (OkNumber number) begun = refl
+begin_made answer begun = absurd (cc begun)
+
+-- and a look that found an entry
+pub look_made : (answer : Answer) → IsFound answer → is_made answer ≡ true
+look_made (ReadyFrame number len) found = refl
+look_made answer found = absurd (cc found)
+
+-- a step that is never out of memory takes its turn
+pub takes_turn : {E : Type 0} (devs : List DevPlan) (step : QueueStep) (answer : Answer) (old new : QueuePart) (before after : Bridge) → HasTurned (queue_turn devs old before step) answer old new before after
+    → HasMadeOnQueue {E = E} devs step old new before after (Ok answer)
+takes_turn devs step answer old new before after has =
+    record {
+      answer = has.answer;
+      after = has.after;
+      bridge = ap plain_bridge has.bridge;
+      err = tt;
+      err_bridge = tt;
+      keeps = has.keeps;
+      wants = λ failed. absurd (cc failed);
+      border = tt;
+    }
+
+-- a step that may be, and changes nothing but promises of the bridge
+pub may_take_turn : {E : Type 0} (devs : List DevPlan) (step : QueueStep) (result : Result Answer E) (old new : QueuePart) (before after : Bridge) → queue_wants_memory step ≡ true
+    → (queue_turn devs old before step).bridge ≡ before
+    → HasTurnedUnlessWanting (MayWantOnQueue old.counters step) (queue_turn devs old before step) result old new before after → HasMadeOnQueue devs step old new before after result
+may_take_turn devs step (Ok answer) old new before after may stays has =
+    record {
+      answer = has.answer;
+      after = has.after;
+      bridge = has.plain ∙ sym (ap plain_bridge stays);
+      err = tt;
+      err_bridge = tt;
+      keeps = has.keeps;
+      wants = λ failed. absurd (cc failed);
+      border = tt;
+    }
+may_take_turn devs step (Err error) old new before after may stays has =
+    record { answer = tt; after = tt; bridge = tt; err = has.err; err_bridge = has.plain; keeps = has.keeps; wants = λ failed. may; border = has.wants }

@@ -42,6 +42,7 @@ use Rattle.fabric_core.specs.declared.fabric.Fabric.TheInside.{Inside}
 use Rattle.fabric_core.proofs.RefusedMoves.{refused_left}
 use Rattle.fabric_core.specs.Lawful.{IsLawful}
 use Rattle.fabric_core.specs.FabricStep.{HasStepped}
+use Rattle.fabric_core.specs.StepCalls.{HasMadeStep}
 use Rattle.fabric_core.specs.FrameDue.{rule_answer}
 use Rattle.fabric_core.specs.Wants.{MayWant}
 use Rattle.fabric_core.specs.LogClauses.{HasMade, IsAnswered, IsLikely, log_after}
@@ -339,15 +340,7 @@ always_lawful plan steps fabric made = laws_hold plan (memory_of plan) steps mad
 
 -- What a step leaves of a fabric, by what it leaves of its pair
 
--- a call on a pair made the step, or left the pair as it was, promises aside
-pub record PairMoved {E : Type 0} (devs : List DevPlan) (step : Step) (old new : PairState) (result : Result Answer E) : Type 0 where
-  pub answer : IfOk result (λ answer. answer ≡ (move_of devs old step).answer)
-  pub after : OnOk result (plain_pair new ≡ plain_pair (move_of devs old step).after)
-  pub err : OnErr result (plain_pair new ≡ plain_pair old)
-  pub border : OnErr result (MayWant old step (move_of devs old step).answer)
-
--- it stands for some steps still
-
+-- it has made some steps of the plan
 pub record MadeSome (plan : Plan) (fabric : FabricState) : Type 0 where
   pub steps : List Step
   pub made : HasMade plan steps fabric
@@ -370,10 +363,10 @@ module _ (old : FabricState) (step : Step) (pair : PairState) (may : IsPermitted
       let next = move_of old.devs (pair_of old (subject_of step)) step in
       step_answered plan steps step old (with_pair old (subject_of step) next.after) made (permitted_by plan steps made) next.answer (set_moved old step next.after next.answer among_pairs refl refl)
 
-  pub fabric_moved : {E : Type 0} (result : Result Answer E) → MadeSome (plan_kept old) old → (IsErr result → may_want_memory step ≡ true) → PairMoved old.devs step (pair_of old (subject_of step)) pair result
+  pub fabric_moved : {E : Type 0} (result : Result Answer E) → MadeSome (plan_kept old) old → HasMadeStep old.devs step (pair_of old (subject_of step)) pair result
       → HasStepped old (with_pair old (subject_of step) pair) step result
   unfolding rule_answer
-  fabric_moved (Ok answer) some wants moved =
+  fabric_moved (Ok answer) some moved =
       let moves = set_moved old step pair answer among_pairs moved.answer moved.after in
       let new = with_pair old (subject_of step) pair in
       record {
@@ -389,11 +382,11 @@ module _ (old : FabricState) (step : Step) (pair : PairState) (may : IsPermitted
         refused = λ refused. refused_left old step pair (ap is_made (sym moved.answer) ∙ refused) moved.after;
         still_stands = λ plan steps made. tt;
         err = tt;
-        wants = wants;
+        wants = moved.wants;
         border = λ plan steps made. tt;
         plan = same_plan old new (record { steps = some.steps ++ step ∷ []; made = step_made (plan_kept old) some.steps step old new some.made may answer moves });
       }
-  fabric_moved (Err e) some wants moved =
+  fabric_moved (Err e) some moved =
       let new = with_pair old (subject_of step) pair in
       let same = set_plain old (subject_of step) pair moved.err in
       record {
@@ -405,7 +398,7 @@ module _ (old : FabricState) (step : Step) (pair : PairState) (may : IsPermitted
         refused = tt;
         still_stands = λ plan steps made. still_made plan steps old new same made;
         err = same;
-        wants = wants;
+        wants = moved.wants;
         border = λ plan steps made. (rule_answer old step, rule_answers plan steps made, moved.border);
         plan = same_plan old new (record { steps = some.steps; made = still_made (plan_kept old) some.steps old new same some.made });
       }

@@ -36,26 +36,6 @@ use Rattle.fabric_rule.specs.Moves.{Move, move_at, move_of}
 use Rattle.fabric_rule.specs.Turns.{bridge_turn, posted_aside}
 use Rattle.step_kinds.specs.Places.{by_value, step_place}
 
--- Where a step is made
-
-moved_by_value : (devs : List DevPlan) (pair : PairState) (place : StepPlace) → move_at devs pair (by_value place) ≡ move_at devs pair place
-moved_by_value devs pair (OnQueue side queue (Begin frame)) = refl
-moved_by_value devs pair (OnQueue side queue (Xbegin dev dst kind payload)) = refl
-moved_by_value devs pair (OnBridge (Poke side window offset bytes)) = refl
-moved_by_value devs pair place = refl
-
--- What a step makes of a pair is a turn at its place: of one queue, of a side that is cleaned, or of the bridge.
-pub made_there : (devs : List DevPlan) (pair : PairState) (step : Step) (place : StepPlace) → by_value place ≡ step_place step → move_of devs pair step ≡ move_at devs pair place
-made_there devs pair step place is = ap (move_at devs pair) (sym is) ∙ moved_by_value devs pair place
-
--- what a move answers and what it leaves, if it is another that was made
-pub answered : {E : Type 0} (result : Result Answer E) (move made : Move) → move ≡ made → IfOk result (λ answer. answer ≡ made.answer) → IfOk result (λ answer. answer ≡ move.answer)
-answered result move made is answer = subst (λ (move : Move). IfOk result (λ answer. answer ≡ move.answer)) (sym is) answer
-
--- Where two moves are equal, a pair that is as the one leaves it, promises aside, is as the other leaves it.
-pub left : {E : Type 0} (result : Result Answer E) (new : PairState) (move made : Move) → move ≡ made → OnOk result (plain_pair new ≡ plain_pair made.after) → OnOk result (plain_pair new ≡ plain_pair move.after)
-left result new move made is after = subst (λ (move : Move). OnOk result (plain_pair new ≡ plain_pair move.after)) (sym is) after
-
 -- What a step on the bridge keeps
 
 still : (old new : Bridge) → KeepsPromises old new → KeepsPromised old new

@@ -15,4 +15,5 @@ pub mod QueueCalls
 pub mod Refusals
 pub mod Same
 pub mod Sessions
+pub mod StepCalls
 pub mod Wants

@@ -1,24 +1,23 @@
 //! A pair with its queues.
 
-ghost use Rattle.std.specs.Prelude.{IfOk, IsErr, IsTrue, OnErr, OnOk, length, map, slice_index_or, slice_set, true, ◌++◌, ◌<◌, ◌↔◌, ◌≡◌};
+ghost use Rattle.std.specs.Prelude.{IfOk, IsTrue, List, OnErr, OnOk, length, map, slice_index_or, slice_set, true, ◌++◌, ◌<◌, ◌↔◌, ◌≡◌};
 ghost use Rattle.bridge_pair.specs.Bridge.{flight_of, pages_of};
-ghost use Rattle.fabric_core.specs.Fabric.{bridge_wants_memory, may_want_memory, queue_wants_memory};
 ghost use Rattle.fabric_core.specs.InFlight.{pair_key, pair_key_without};
-ghost use Rattle.fabric_core.specs.Parts.{Agrees, AreAlone, AreFreshQueues, AreLimitsOn, CanForget, CanMake, CanTurnQueue, HasOtherRoom, KeepsPort};
+ghost use Rattle.fabric_core.specs.Parts.{Agrees, AreAlone, AreFreshQueues, AreLimitsOn, CanForget, CanMake, CanTurnQueue, HasOtherRoom};
 ghost use Rattle.fabric_core.specs.Promises.{CanTurn};
+ghost use Rattle.fabric_core.specs.StepCalls.{HasMadeAt, HasMadeOnQueue, HasMadeStep};
 ghost use Rattle.fabric_core.specs.Same.{AreOfOneSide, AreSameParts, HasSameQueues, IsSamePair, LandsAsPair};
-ghost use Rattle.fabric_core.specs.Wants.{MayWant, MayWantOnQueue};
-ghost use Rattle.step_kinds.specs.Answers.{is_made};
 ghost use Rattle.fabric_rule.specs.Laws.{IsFreshPair};
-ghost use Rattle.fabric_rule.specs.Parts.{no_queue, plain_bridge, plain_pair, queue_of};
+ghost use Rattle.fabric_rule.specs.Parts.{no_queue, plain_pair, queue_of};
 ghost use Rattle.frame_ring.specs.PortCalls.{IsDue};
 ghost use Rattle.frame_ring.specs.PortView.{FitsRings, HasPagesIn, HasRoomIn};
 ghost use Rattle.pair_model.specs.DeclaredPlans.{IsPair};
 ghost use Rattle.pair_model.specs.Plans.{side_plan as side_plan_of};
 ghost use Rattle.queue_pair.specs.Gates.{is_joined};
 ghost use Rattle.step_kinds.specs.declared.names.Side.TheVariants.{A, B};
-ghost use Rattle.fabric_rule.specs.Turns.{bridge_turn, queue_turn};
-ghost use Rattle.fabric_rule.specs.Moves.{bridge_turned, clean_move, forgotten_queue, move_of, turned};
+ghost use Rattle.step_kinds.specs.declared.places.StepPlace.TheVariants.{OnBridge, OnQueue};
+ghost use Rattle.step_kinds.specs.declared.plan.DevPlan.{DevPlan as DevPlanValue};
+ghost use Rattle.fabric_rule.specs.Moves.{clean_move, forgotten_queue};
 
 use crate::answers::refusal_answer;
 use crate::bridge_steps::bridge_step;
@@ -75,11 +74,7 @@ impl PairBox {
     pub fn make(&mut self, devs: &[DevPlan], step: &Step) -> Result<Answer, AllocError>
         requires agrees { Agrees self.old.bridge }
         requires can { CanMake devs.now self.old.bridge step.now }
-        ensures answer { IfOk result (λ answer. answer ≡ (move_of devs.now self.old step.now).answer) }
-        ensures after { OnOk result (plain_pair self.new ≡ plain_pair (move_of devs.now self.old step.now).after) }
-        ensures err { OnErr result (plain_pair self.new ≡ plain_pair self.old) }
-        ensures wants { IsErr result → may_want_memory step.now ≡ true }
-        ensures border { OnErr result (MayWant self.old step.now (move_of devs.now self.old step.now).answer) }
+        ensures { HasMadeStep devs.now step.now self.old self.new result }
     {
         match step.place() {
             StepPlace::OnQueue { side, queue, step } => self.queue_step(side, queue, devs, step),
@@ -96,11 +91,7 @@ impl PairBox {
     #[inline(always)]
     fn step_aside(&mut self, step: BridgeStep) -> Result<Answer, AllocError>
         requires { CanTurn self.old.bridge step }
-        ensures answer { IfOk result (λ answer. answer ≡ (bridge_turn self.old.bridge step.entry).answer) }
-        ensures after { OnOk result (plain_pair self.new ≡ plain_pair (bridge_turned self.old (bridge_turn self.old.bridge step.entry)).after) }
-        ensures err { OnErr result (plain_pair self.new ≡ plain_pair self.old) }
-        ensures wants { IsErr result → bridge_wants_memory step.entry ≡ true }
-        ensures border { OnErr result (is_made (bridge_turn self.old.bridge step.entry).answer ≡ true) }
+        ensures { (devs : List DevPlanValue) → HasMadeAt devs (OnBridge step.entry) self.old self.new result }
     {
         let alloc = self.alloc;
         bridge_step(&mut self.pair, alloc, step)
@@ -118,11 +109,7 @@ impl PairBox {
         requires agrees { Agrees self.old.bridge }
         requires among { queue < (side_plan_of self.old.bridge.plan side).queues }
         requires can { CanTurnQueue devs.now step }
-        ensures answer { IfOk result (λ answer. answer ≡ (queue_turn devs.now (queue_of self.old side queue) self.old.bridge step.entry).answer) }
-        ensures after { OnOk result (plain_pair self.new ≡ plain_pair (turned self.old side queue (queue_turn devs.now (queue_of self.old side queue) self.old.bridge step.entry)).after) }
-        ensures err { OnErr result (plain_pair self.new ≡ plain_pair self.old) }
-        ensures wants { IsErr result → queue_wants_memory step.entry ≡ true }
-        ensures border { OnErr result (MayWantOnQueue (queue_of self.old side queue).counters step.entry (queue_turn devs.now (queue_of self.old side queue) self.old.bridge step.entry).answer) }
+        ensures { HasMadeAt devs.now (OnQueue side queue step.entry) self.old self.new result }
     {
         let alloc = self.alloc;
         match side {
@@ -297,15 +284,9 @@ fn make_at(
     requires room { HasRoomIn (slice_index_or queues.old.items queue no_queue).queue.port pair.old }
     requires pages { HasPagesIn (slice_index_or queues.old.items queue no_queue).queue.port pair.old }
     requires step { CanTurnQueue devs.now step }
-    ensures answer { IfOk result (λ answer. answer ≡ (queue_turn devs.now (slice_index_or queues.old.items queue no_queue) pair.old step.entry).answer) }
+    ensures made { HasMadeOnQueue devs.now step.entry (slice_index_or queues.old.items queue no_queue) (slice_index_or queues.new.items queue no_queue) pair.old pair.new result }
     ensures queues { queues.new.items ≡ slice_set queues.old.items queue (slice_index_or queues.new.items queue no_queue) }
-    ensures after { OnOk result (slice_index_or queues.new.items queue no_queue ≡ (queue_turn devs.now (slice_index_or queues.old.items queue no_queue) pair.old step.entry).part) }
-    ensures bridge { OnOk result (plain_bridge pair.new ≡ plain_bridge (queue_turn devs.now (slice_index_or queues.old.items queue no_queue) pair.old step.entry).bridge) }
     ensures err { OnErr result (queues.new.items ≡ queues.old.items) }
-    ensures err_bridge { OnErr result (plain_bridge pair.new ≡ plain_bridge pair.old) }
-    ensures keeps { KeepsPort (slice_index_or queues.old.items queue no_queue).queue.port (slice_index_or queues.new.items queue no_queue).queue.port pair.old pair.new }
-    ensures wants { IsErr result → queue_wants_memory step.entry ≡ true }
-    ensures border { OnErr result (MayWantOnQueue (slice_index_or queues.old.items queue no_queue).counters step.entry (queue_turn devs.now (slice_index_or queues.old.items queue no_queue) pair.old step.entry).answer) }
 {
     let part = &mut queues[queue as usize];
     part.make(pair, alloc, devs, step)

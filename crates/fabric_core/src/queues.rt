@@ -1,14 +1,13 @@
 //! One queue of one side, with what is counted of it.
 
-ghost use Rattle.std.specs.Prelude.{IfOk, IsErr, IsTrue, OnErr, OnOk, length, true, ◌<◌, ◌↔◌, ◌≡◌, ◌≤◌};
+ghost use Rattle.std.specs.Prelude.{IfOk, IsTrue, OnErr, OnOk, length, true, ◌<◌, ◌↔◌, ◌≡◌, ◌≤◌};
 ghost use Rattle.fabric_core.specs.Numbers.{HasRoomToSend};
-ghost use Rattle.fabric_core.specs.Fabric.{queue_wants_memory};
-ghost use Rattle.fabric_core.specs.Parts.{CanTurnQueue, KeepsPort, fresh_part};
+ghost use Rattle.fabric_core.specs.Parts.{CanTurnQueue, fresh_part};
 ghost use Rattle.fabric_core.specs.QueueCalls.{CanBegin, CanPost, HasTurned, HasTurnedUnlessWanting, IsBegun, IsBegunOrUncounted, IsFound, counted_begun, refused_once};
 ghost use Rattle.fabric_core.specs.Same.{AreOfOnePlace, IsSamePart};
-ghost use Rattle.fabric_core.specs.Wants.{MayWantOnQueue};
+ghost use Rattle.fabric_core.specs.StepCalls.{HasMadeOnQueue};
 ghost use Rattle.pair_model.specs.Ethernet.{ethernet_frame};
-ghost use Rattle.fabric_rule.specs.Parts.{count_in, plain_bridge};
+ghost use Rattle.fabric_rule.specs.Parts.{count_in};
 ghost use Rattle.frame_ring.specs.Calls.{free_answer, reset_by};
 ghost use Rattle.frame_ring.specs.PortCalls.{IsDue};
 ghost use Rattle.frame_ring.specs.PortView.{FitsRings, HasPagesIn, HasRoomIn};
@@ -17,7 +16,7 @@ ghost use Rattle.pair_model.specs.Plans.{side_plan as side_plan_of};
 ghost use Rattle.queue_pair.specs.Gates.{is_joined, look_answer as queue_look_answer};
 ghost use Rattle.queue_pair.specs.declared.LookAnswer.TheVariants.{Ready as QueueReady};
 ghost use Rattle.step_kinds.specs.Limits.{most_count, most_frame_bytes};
-ghost use Rattle.fabric_rule.specs.Turns.{ack_turn, begin_turn, clear_turn, copy_turn, frame_answer, frame_turn, look_turn, post_turn, qpdown_turn, queue_turn, wake_turn};
+ghost use Rattle.fabric_rule.specs.Turns.{ack_turn, begin_turn, clear_turn, copy_turn, frame_answer, frame_turn, look_turn, post_turn, qpdown_turn, wake_turn};
 ghost use Rattle.fabric_rule.specs.Moves.{forgotten_queue};
 
 use crate::answers::{
@@ -85,14 +84,7 @@ impl QueueBox {
         requires room { HasRoomIn self.old.queue.port pair.old }
         requires pages { HasPagesIn self.old.queue.port pair.old }
         requires step { CanTurnQueue devs.now step }
-        ensures answer { IfOk result (λ answer. answer ≡ (queue_turn devs.now self.old pair.old step.entry).answer) }
-        ensures after { OnOk result (self.new ≡ (queue_turn devs.now self.old pair.old step.entry).part) }
-        ensures bridge { OnOk result (plain_bridge pair.new ≡ plain_bridge (queue_turn devs.now self.old pair.old step.entry).bridge) }
-        ensures err { OnErr result (self.new ≡ self.old) }
-        ensures err_bridge { OnErr result (plain_bridge pair.new ≡ plain_bridge pair.old) }
-        ensures keeps { KeepsPort self.old.queue.port self.new.queue.port pair.old pair.new }
-        ensures wants { IsErr result → queue_wants_memory step.entry ≡ true }
-        ensures border { OnErr result (MayWantOnQueue self.old.counters step.entry (queue_turn devs.now self.old pair.old step.entry).answer) }
+        ensures { HasMadeOnQueue devs.now step.entry self.old self.new pair.old pair.new result }
     {
         match step {
             QueueStep::Begin { frame } => self.begin(pair, alloc, frame),

@@ -1,12 +1,12 @@
-use Rattle.std.proofs.Common.{◌<◌, ◌≡◌, IfOk, OnErr, subst, sym}
+use Rattle.std.proofs.Common.{◌<◌, subst, sym}
 use Rattle.pair_model.specs.Plans.{side_plan}
 use Rattle.step_kinds.specs.declared.names.Side.{Side}
 use Rattle.step_kinds.specs.declared.names.Side.TheVariants.{A, B}
-use Rattle.fabric_rule.specs.Parts.{PairState, queue_of}
-use Rattle.fabric_core.specs.Wants.{MayWantOnQueue}
-use Rattle.fabric_core.proofs.SteppedPairs.{called}
+use Rattle.step_kinds.specs.declared.places.StepPlace.TheVariants.{OnQueue}
+use Rattle.fabric_rule.specs.Parts.{PairState}
+use Rattle.fabric_core.specs.StepCalls.{HasMadeAt}
+use Rattle.fabric_core.proofs.SteppedPairs.{called, made_on_side, sides_of}
 use Rattle.fabric_core.proofs.pairs.PairBox.queue_step.Goals as goal
-use Rattle.fabric_rule.specs.Turns.{queue_turn}
 
 pub invariant_of-self : goal.invariant_of-self
 invariant_of-self c =
@@ -14,7 +14,7 @@ invariant_of-self c =
     subst (λ (state : PairState). c.args.queue < (side_plan state.bridge.plan A).queues) (sym c.self.view_is)
     (subst (λ (side : Side). c.args.queue < (side_plan c.args.self.now.bridge.plan side).queues) c.in-A.is c.requires.among) in
     called c.self.inside.pair c.make_at.new.pair A c.self.inside.queues_a.items c.self.inside.queues_b.items c.make_at.new.queues.items c.args.queue c.self.invariant below c.make_at.ensures.queues
-    c.make_at.ensures.keeps
+    c.make_at.ensures.made.keeps
 
 pub invariant_of-self-in-B : goal.invariant_of-self-in-B
 invariant_of-self-in-B c =
@@ -22,28 +22,20 @@ invariant_of-self-in-B c =
     subst (λ (state : PairState). c.args.queue < (side_plan state.bridge.plan B).queues) (sym c.self.view_is)
     (subst (λ (side : Side). c.args.queue < (side_plan c.args.self.now.bridge.plan side).queues) c.in-B.is c.requires.among) in
     called c.self.inside.pair c.make_at-in-B.new.pair B c.self.inside.queues_b.items c.self.inside.queues_a.items c.make_at-in-B.new.queues.items c.args.queue c.self.invariant below
-    c.make_at-in-B.ensures.queues c.make_at-in-B.ensures.keeps
+    c.make_at-in-B.ensures.queues c.make_at-in-B.ensures.made.keeps
 
-pub returns-in-A-clause-answer : goal.returns-in-A-clause-answer
-returns-in-A-clause-answer c =
-    subst (λ (side : Side). IfOk c.make_at.result (λ answer. answer ≡ (queue_turn c.args.devs.now (queue_of c.args.self.now side c.args.queue) c.args.self.now.bridge c.args.step).answer)) (sym c.in-A.is)
-    (subst (λ (state : PairState). IfOk c.make_at.result (λ answer. answer ≡ (queue_turn c.args.devs.now (queue_of state A c.args.queue) state.bridge c.args.step).answer)) c.self.view_is
-    c.make_at.ensures.answer)
+pub returns-in-A : goal.returns-in-A
+returns-in-A c =
+    let new = sides_of c.make_at.new.pair A c.make_at.new.queues.items c.self.inside.queues_b.items in
+    subst (λ (side : Side). HasMadeAt c.args.devs.now (OnQueue side c.args.queue c.args.step) c.args.self.now new c.make_at.result) (sym c.in-A.is)
+    (subst (λ (state : PairState). HasMadeAt c.args.devs.now (OnQueue A c.args.queue c.args.step) state new c.make_at.result) c.self.view_is
+    (made_on_side c.args.devs.now c.args.step c.make_at.result c.self.inside.pair c.make_at.new.pair A c.self.inside.queues_a.items c.self.inside.queues_b.items c.make_at.new.queues.items c.args.queue
+    c.make_at.ensures.queues c.make_at.ensures.err c.make_at.ensures.made))
 
-pub returns-in-B-clause-answer : goal.returns-in-B-clause-answer
-returns-in-B-clause-answer c =
-    subst (λ (side : Side). IfOk c.make_at-in-B.result (λ answer. answer ≡ (queue_turn c.args.devs.now (queue_of c.args.self.now side c.args.queue) c.args.self.now.bridge c.args.step).answer)) (sym c.in-B.is)
-    (subst (λ (state : PairState). IfOk c.make_at-in-B.result (λ answer. answer ≡ (queue_turn c.args.devs.now (queue_of state B c.args.queue) state.bridge c.args.step).answer)) c.self.view_is
-    c.make_at-in-B.ensures.answer)
-
-pub returns-in-A-clause-border : goal.returns-in-A-clause-border
-returns-in-A-clause-border c =
-    subst (λ (side : Side). OnErr c.make_at.result (MayWantOnQueue (queue_of c.args.self.now side c.args.queue).counters c.args.step (queue_turn c.args.devs.now (queue_of c.args.self.now side c.args.queue) c.args.self.now.bridge c.args.step).answer)) (sym c.in-A.is)
-    (subst (λ (state : PairState). OnErr c.make_at.result (MayWantOnQueue (queue_of state A c.args.queue).counters c.args.step (queue_turn c.args.devs.now (queue_of state A c.args.queue) state.bridge c.args.step).answer)) c.self.view_is
-    c.make_at.ensures.border)
-
-pub returns-in-B-clause-border : goal.returns-in-B-clause-border
-returns-in-B-clause-border c =
-    subst (λ (side : Side). OnErr c.make_at-in-B.result (MayWantOnQueue (queue_of c.args.self.now side c.args.queue).counters c.args.step (queue_turn c.args.devs.now (queue_of c.args.self.now side c.args.queue) c.args.self.now.bridge c.args.step).answer)) (sym c.in-B.is)
-    (subst (λ (state : PairState). OnErr c.make_at-in-B.result (MayWantOnQueue (queue_of state B c.args.queue).counters c.args.step (queue_turn c.args.devs.now (queue_of state B c.args.queue) state.bridge c.args.step).answer)) c.self.view_is
-    c.make_at-in-B.ensures.border)
+pub returns-in-B : goal.returns-in-B
+returns-in-B c =
+    let new = sides_of c.make_at-in-B.new.pair B c.make_at-in-B.new.queues.items c.self.inside.queues_a.items in
+    subst (λ (side : Side). HasMadeAt c.args.devs.now (OnQueue side c.args.queue c.args.step) c.args.self.now new c.make_at-in-B.result) (sym c.in-B.is)
+    (subst (λ (state : PairState). HasMadeAt c.args.devs.now (OnQueue B c.args.queue c.args.step) state new c.make_at-in-B.result) c.self.view_is
+    (made_on_side c.args.devs.now c.args.step c.make_at-in-B.result c.self.inside.pair c.make_at-in-B.new.pair B c.self.inside.queues_b.items c.self.inside.queues_a.items c.make_at-in-B.new.queues.items c.args.queue
+    c.make_at-in-B.ensures.queues c.make_at-in-B.ensures.err c.make_at-in-B.ensures.made))
