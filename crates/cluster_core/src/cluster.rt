@@ -1,7 +1,8 @@
 //! The cluster.
 
-ghost use Rattle.std.specs.Prelude.{◌≡◌, ◌++◌, ◌↔◌, ◌<◌, ◌∷◌, ℕ, [], IfOk, IfSome, IsTrue, List, OnErr, OnOk, Some, length, true};
+ghost use Rattle.std.specs.Prelude.{◌≡◌, ◌++◌, ◌↔◌, ◌<◌, ◌≤◌, ◌∷◌, ℕ, [], IfOk, IfSome, IsTrue, List, OnErr, OnOk, Some, length, true};
 ghost use Rattle.pair_model.specs.PlanParts.{declared_part};
+ghost use Rattle.step_kinds.specs.Limits.{most_frame_bytes};
 ghost use Rattle.step_kinds.specs.Sides.{other_side};
 ghost use Rattle.step_kinds.specs.declared.plan.Plan.{Plan as PlanValue};
 ghost use Rattle.step_kinds.specs.declared.steps.Answer.TheVariants.{Landed};
@@ -162,8 +163,7 @@ impl Cluster {
         let Some(frame) = self.switches[place.switch as usize].first(place.port) else {
             return Ok(None);
         };
-        // (so that it is known to be no longer than a frame may be)
-        let _len = frame.len();
+        frame_is_short(frame);
         Ok(Some(NextFrame {
             place,
             frame: frame.copy_of(self.alloc)?,
@@ -346,6 +346,14 @@ impl Model for Cluster {
 struct NextFrame {
     place: PortPlace,
     frame: Frame,
+}
+
+// A frame is no longer than a frame may be. It does nothing: its clause is the law.
+#[inline(always)]
+fn frame_is_short(frame: &Frame)
+    ensures { length frame.now ≤ most_frame_bytes }
+{
+    let _len = frame.len();
 }
 
 // Whether switches are the same, one after the other.

@@ -1,6 +1,6 @@
 //! The sender's end.
 ghost use Rattle.std.specs.Prelude.{◌≡◌, ◌≢◌, ◌<◌, ◌≤◌, [], length};
-ghost use Rattle.step_kinds.specs.Limits.{most_traffic_entries};
+ghost use Rattle.step_kinds.specs.Limits.{most_frame_bytes, most_traffic_entries};
 ghost use Rattle.table_lane.specs.LaneNames.{free_entries};
 ghost use Rattle.table_lane.specs.ShownLane.{most_lane_frames};
 ghost use Rattle.table_lane.specs.SendAnswers.{Sends};
@@ -31,6 +31,14 @@ pub enum SendAnswer {
     NoRoom { frame: Frame, head: u32, tail: u32 },
     /// The link word that this call loaded showed that the link is cut. Here is the frame.
     Cut { frame: Frame },
+}
+
+// A frame is no longer than a frame may be. It does nothing: its clause is the law.
+#[inline(always)]
+fn frame_is_short(frame: &Frame)
+    ensures { length frame.now ≤ most_frame_bytes }
+{
+    let _len = frame.len();
 }
 
 // The free entries, as head and index word show them.
@@ -70,7 +78,7 @@ impl SendEnd {
             };
         }
         let number = self.sent;
-        let _at_most = frame.len();
+        frame_is_short(&frame);
         self.sent = number + 1;
         self.head = position_after(entries, head, 1);
         post_frame(board, &mut self.at.seat, entries, number, head, frame);

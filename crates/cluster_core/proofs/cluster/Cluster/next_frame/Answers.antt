@@ -35,7 +35,7 @@ returns-clause-fits c =
     let same : length c.in_ok-copy_of.field-0 ≡ length c.in-Some-first.frame.now = ap length c.in_ok-copy_of.ensures in
     let waits : 0 < length (list_of c.index.result.now.waiting c.in-Some.place.port) = some_waits (list_of c.index.result.now.waiting c.in-Some.place.port) c.in-Some-first.frame.now c.in-Some-first.ensures.value in
     record {
-      frame = (omega (arith, same, c.in-Some-first.ensures.header), omega (arith, same, c.len-len.ensures.value, c.len-len.ensures.fits));
+      frame = (omega (arith, same, c.in-Some-first.ensures.header), omega (arith, same, c.frame_is_short.ensures));
       place = subst (λ (cluster : ClusterState). IsPortAmong cluster.plans c.in-Some.place.switch c.in-Some.place.port) c.self.view_is among;
       waits =
           subst (λ (cluster : ClusterState). HasWaiting cluster c.in-Some.place) c.self.view_is
