@@ -82,7 +82,7 @@ takes_turn devs step answer old new before after has =
       err = tt;
       err_bridge = tt;
       keeps = has.keeps;
-      wants = λ failed. absurd failed;
+      wants = λ failed. absurd (cc failed);
       border = tt;
     }
 
@@ -98,7 +98,7 @@ may_take_turn devs step (Ok answer) old new before after may stays has =
       err = tt;
       err_bridge = tt;
       keeps = has.keeps;
-      wants = λ failed. absurd failed;
+      wants = λ failed. absurd (cc failed);
       border = tt;
     }
 may_take_turn devs step (Err error) old new before after may stays has =

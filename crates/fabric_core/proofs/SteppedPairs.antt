@@ -1,5 +1,5 @@
 -- A pair stays whole through a step on its bridge, or on one of its queues.
-use Rattle.std.proofs.Common.{◌≡◌, ◌∙◌, ℕ, ◌<◌, List, Result, Ok, Err, OnErr, OnOk, length, get_or, set, ap, subst, sym}
+use Rattle.std.proofs.Common.{◌≡◌, ◌∙◌, ℕ, ◌<◌, List, Result, Ok, Err, OnErr, OnOk, length, get_or, set, ap, refl, subst, sym}
 use Rattle.step_kinds.specs.Sides.{other_side}
 use Rattle.step_kinds.specs.declared.names.Side.{Side}
 use Rattle.step_kinds.specs.declared.names.Side.TheVariants.{A, B}
@@ -67,18 +67,20 @@ called old new side own peer parts queue whole below is keeps =
     whole_of_sides new side parts peer (subst (λ parts. SideIsWhole new side parts) (sym is) (side_turned old new side own queue part within keeps each.0))
     (peer_kept old new side own peer queue part within keeps each.0 each.1)
 
+-- pairs with the same bridge and the same queues
+same_state : (bridge bridge' : Bridge) (a a' b b' : List QueuePart) → bridge ≡ bridge' → a ≡ a' → b ≡ b' → state_of bridge a b ≡ state_of bridge' a' b'
+same_state bridge bridge' a a' b b' one two three = λ i. state_of (one i) (two i) (three i)
+
 -- A pair makes the step that one of its queues made, where all other queues of the side stay.
 pub made_on_side : {E : Type 0} (devs : List DevPlan) (step : QueueStep) (result : Result Answer E) (old new : Bridge) (side : Side) (own peer parts : List QueuePart) (queue : ℕ)
     → parts ≡ set own queue (get_or parts queue no_queue) → OnErr result (parts ≡ own)
     → HasMadeOnQueue devs step (get_or own queue no_queue) (get_or parts queue no_queue) old new result
     → HasMadeAt devs (OnQueue side queue step) (sides_of old side own peer) (sides_of new side parts peer) result
 made_on_side devs step (Ok answer) old new A own peer parts queue is err made =
-    let left = is ∙ ap (set own queue) made.after in
-    record { answer = made.answer; after = λ i. state_of (made.bridge i) (left i) peer; err = tt; wants = made.wants; border = tt }
+    record { answer = made.answer; after = same_state _ _ _ _ peer peer made.bridge (is ∙ ap (set own queue) made.after) refl; err = tt; wants = made.wants; border = tt }
 made_on_side devs step (Ok answer) old new B own peer parts queue is err made =
-    let left = is ∙ ap (set own queue) made.after in
-    record { answer = made.answer; after = λ i. state_of (made.bridge i) peer (left i); err = tt; wants = made.wants; border = tt }
+    record { answer = made.answer; after = same_state _ _ peer peer _ _ made.bridge refl (is ∙ ap (set own queue) made.after); err = tt; wants = made.wants; border = tt }
 made_on_side devs step (Err error) old new A own peer parts queue is err made =
-    record { answer = tt; after = tt; err = λ i. state_of (made.err_bridge i) (err i) peer; wants = made.wants; border = made.border }
+    record { answer = tt; after = tt; err = same_state _ _ _ _ peer peer made.err_bridge err refl; wants = made.wants; border = made.border }
 made_on_side devs step (Err error) old new B own peer parts queue is err made =
-    record { answer = tt; after = tt; err = λ i. state_of (made.err_bridge i) peer (err i); wants = made.wants; border = made.border }
+    record { answer = tt; after = tt; err = same_state _ _ peer peer _ _ made.err_bridge refl err; wants = made.wants; border = made.border }

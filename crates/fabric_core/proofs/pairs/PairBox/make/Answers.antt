@@ -1,5 +1,8 @@
-use Rattle.std.proofs.Common.{refl}
+use Rattle.std.proofs.Common.{Ok, refl}
+use Rattle.std.specs.declared.alloc.AllocError.{AllocError}
 use Rattle.step_kinds.specs.declared.places.StepPlace.TheVariants.{OnBridge, OnQueue, OnSwitch}
+use Rattle.step_kinds.specs.declared.steps.Answer.TheVariants.{Ok as Done}
+use Rattle.fabric_core.specs.StepCalls.{HasMadeAt}
 use Rattle.fabric_core.proofs.StepsByPlace.{made_by_place, needed_there}
 use Rattle.fabric_core.proofs.pairs.PairBox.make.Goals as goal
 
@@ -16,8 +19,9 @@ step_aside-requires c = needed_there c.args.devs.now c.args.self.now.bridge c.ar
 
 pub returns-in-OnSwitch : goal.returns-in-OnSwitch
 returns-in-OnSwitch c =
-    made_by_place _ c.args.devs.now c.args.self.now _ c.args.step.now (OnSwitch c.in-OnSwitch.step) c.in-OnSwitch.ensures
-    (record { answer = refl; after = refl; err = tt; wants = λ failed. absurd failed; border = tt })
+    let pair = c.args.self.now in
+    let made : HasMadeAt {E = AllocError} c.args.devs.now (OnSwitch c.in-OnSwitch.step) pair pair (Ok Done) = record { answer = refl; after = refl; err = tt; wants = λ failed. absurd (cc failed); border = tt } in
+    made_by_place (Ok Done) c.args.devs.now pair pair c.args.step.now (OnSwitch c.in-OnSwitch.step) c.in-OnSwitch.ensures made
 
 pub returns-in-OnQueue : goal.returns-in-OnQueue
 returns-in-OnQueue c =
