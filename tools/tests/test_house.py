@@ -190,8 +190,9 @@ class Constants(Folder):
     def test_others(self) -> None:
         """No other is found: of another value or notion, or made of the first one by its name."""
         low = "pub const MOST_QUEUES: u32 = 16;\n"
-        for line in ("const QUEUES: u32 = 15;", "const MOST_PADS: u32 = 16;", "const QUEUES: usize = MOST_QUEUES as usize;",
-                     "const QUEUES: u32 = low::MOST_QUEUES;", "// const MOST_QUEUES: u32 = 16;"):
+        lines = ("const QUEUES: u32 = 15;", "const MOST_PADS: u32 = 16;", "// const MOST_QUEUES: u32 = 16;",
+                 "const QUEUES: usize = MOST_QUEUES as usize;", "const QUEUES: u32 = low::MOST_QUEUES;")
+        for line in lines:
             with self.subTest(line):
                 self.assertEqual(self.house(low, f"{line}\n"), [])
 
