@@ -1,9 +1,7 @@
 -- A trace, made of what its functions give.
-use Rattle.std.proofs.Common.{◌≡◌, ◌∙◌, ℕ, ◌==◌, ◌&&◌, Bool, true, false, not, List, [], ◌∷◌, ◌++◌, cond, refl, sym, ap}
-use Rattle.std.specs.List.{flat_map}
+use Rattle.std.proofs.Common.{◌≡◌, ◌∙◌, ℕ, List, ◌++◌, refl, ap}
 use Rattle.step_kinds.specs.declared.plan.Counters.{Counters}
 use Rattle.step_kinds.specs.declared.plan.Line.{Line}
-use Rattle.step_kinds.specs.declared.plan.PairPlan.{PairPlan}
 use Rattle.step_kinds.specs.declared.plan.Plan.{Plan}
 use Rattle.step_kinds.specs.AnsweredSteps.{AnsweredStep}
 use Rattle.step_kinds.specs.declared.plan.LaneCount.{LaneCount}
