@@ -13,21 +13,25 @@ use Rattle.read_path.specs.declared.steps.ReadAnswer.TheVariants.{Posted, LinkDo
 use Rattle.read_path.specs.declared.steps.PathLand.{PathLand}
 use Rattle.read_path.specs.declared.steps.PathLand.TheVariants.{Nothing, Blocked, Write, Request, Part, Whole}
 
+-- a word and its numbers
+abbrev pub word_and_numbers : List ℕ → List ℕ → List ℕ
+word_and_numbers word numbers = word ++ numbers_text numbers
+
 abbrev pub post_text : PostAnswer → List ℕ
 post_text PostOk = codes "ok"
 post_text PostLinkDown = codes "linkdown"
 
 abbrev pub read_text : ReadAnswer → List ℕ
-read_text (Posted number) = codes "read" ++ numbers_text (number ∷ [])
+read_text (Posted number) = word_and_numbers (codes "read") (number ∷ [])
 read_text ReadLinkDown = codes "linkdown"
 
 abbrev pub land_text : PathLand → List ℕ
 land_text Nothing = codes "nothing"
 land_text Blocked = codes "blocked"
-land_text (Write at len) = codes "landed write" ++ numbers_text (at ∷ len ∷ [])
-land_text (Request number) = codes "landed read" ++ numbers_text (number ∷ [])
-land_text (Part number part) = codes "part" ++ numbers_text (number ∷ part ∷ [])
-land_text (Whole number bytes) = codes "data" ++ numbers_text (number ∷ []) ++ 32 ∷ encode_lower bytes
+land_text (Write at len) = word_and_numbers (codes "landed write") (at ∷ len ∷ [])
+land_text (Request number) = word_and_numbers (codes "landed read") (number ∷ [])
+land_text (Part number part) = word_and_numbers (codes "part") (number ∷ part ∷ [])
+land_text (Whole number bytes) = word_and_numbers (codes "data") (number ∷ []) ++ 32 ∷ encode_lower bytes
 
 -- a relink cleans and enables both sides, so the last two never come
 abbrev pub refusal_text : LinkRefusal → List ℕ

@@ -4,8 +4,7 @@ ghost use Rattle.std.specs.Prelude.{◌≡◌, ◌∷◌, ◌++◌, [], IfOk, On
 ghost use Rattle.std.specs.Fmt.{decimal};
 ghost use Rattle.read_path.specs.PathLog.{after_step, answer_to};
 ghost use Rattle.reads_command.specs.Report.{made_line};
-ghost use Rattle.reads_command.specs.Texts.{answer_text, land_text, link_text, post_text, read_text, refusal_text};
-ghost use Rattle.report_text.specs.Texts.{numbers_text};
+ghost use Rattle.reads_command.specs.Texts.{answer_text, land_text, link_text, post_text, read_text, refusal_text, word_and_numbers};
 ghost use Rattle.reads_command.specs.Steps.{Fits};
 
 use itoa::Buffer;
@@ -144,7 +143,7 @@ fn refusal_word(refusal: LinkRefusal) -> &'static str
 
 // Adds a word and a number.
 fn push_one(text: &mut Vec<u8>, word: &str, one: u64) -> Result<(), AllocError>
-    ensures { OnOk result (text.new.items ≡ text.old.items ++ word.now ++ numbers_text (one ∷ [])) }
+    ensures { OnOk result (text.new.items ≡ text.old.items ++ word_and_numbers word.now (one ∷ [])) }
 {
     push_word(text, word)?;
     push_numbers(text, &[one])
@@ -152,7 +151,7 @@ fn push_one(text: &mut Vec<u8>, word: &str, one: u64) -> Result<(), AllocError>
 
 // Adds a word and two numbers.
 fn push_two(text: &mut Vec<u8>, word: &str, one: u64, two: u64) -> Result<(), AllocError>
-    ensures { OnOk result (text.new.items ≡ text.old.items ++ word.now ++ numbers_text (one ∷ two ∷ [])) }
+    ensures { OnOk result (text.new.items ≡ text.old.items ++ word_and_numbers word.now (one ∷ two ∷ [])) }
 {
     push_word(text, word)?;
     push_numbers(text, &[one, two])
