@@ -11,6 +11,8 @@ mod pieces;
 #[cfg(test)]
 mod places;
 #[cfg(test)]
+mod polls;
+#[cfg(test)]
 mod turns;
 #[cfg(test)]
 mod wants;
