@@ -3,10 +3,6 @@ use Rattle.std.specs.Prelude.{ℕ, ◌-◌, ◌^◌, min, Bool, List}
 use Rattle.atomic_table.specs.Seated.{TableId}
 use Rattle.lane_workers.specs.Passes.{LetsTurns}
 
--- the turns of a pass where one thread makes the passes of all workers
-abbrev pub most_pass_turns : ℕ
-most_pass_turns = 65535
-
 -- The number of a pass's first turn, by the number of the worker's next turn and by how many turns the pass may make.
 -- It is the next turn's number. If turns from it on would pass 2^64 - 2, it is the largest number from which none does.
 abbrev pub first_turn : ℕ → ℕ → ℕ

@@ -9,6 +9,7 @@ use crate::lanes::LaneWork;
 use crate::rounds::finished;
 use crate::tasks::LaneTask;
 use io_edges::Gate;
+use lane_workers::Way;
 use std::alloc::{AllocError, Global};
 use std::collections::VecDeque;
 use std::sync::Wait;
@@ -57,9 +58,9 @@ pub(crate) fn finished_group<R: Threads + Wait + Sync, G: Gate>(
         works,
         &|_, work: &mut LaneWork|
             requires { LetsWorkers (G.lets gate.now) most_workers }
-        { work.pass_in_threads(rt, gate) },
+        { work.pass(rt, gate, Way::InThreads) },
         &|_, work: &mut LaneWork|
             requires { LetsWorkers (G.lets gate.now) most_workers }
-        { work.pass_in_turn(gate) },
+        { work.pass(rt, gate, Way::InTurn) },
     )
 }

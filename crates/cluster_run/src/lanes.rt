@@ -12,6 +12,7 @@ ghost use Rattle.cluster_run.specs.Lanes.{most_lanes, most_workers};
 use crate::rounds::RoundWork;
 use crate::session::{Session, SessionEnd};
 use io_edges::Gate;
+use lane_workers::Way;
 use std::alloc::{AllocError, Global};
 use std::marker::Model;
 use std::thread::Threads;
@@ -69,8 +70,8 @@ impl LaneWork {
         }
     }
 
-    /// A round in which each of its workers has a thread of its own. A lane that is over does nothing.
-    pub(crate) fn pass_in_threads<R: Threads + Sync, G: Gate>(&mut self, rt: &R, gate: &G)
+    /// A round, in which its workers make their passes in this way. A lane that is over does nothing.
+    pub(crate) fn pass<R: Threads + Sync, G: Gate>(&mut self, rt: &R, gate: &G, way: Way)
         requires { LetsWorkers (G.lets gate.now) most_workers }
         ensures { self.new.key ≡ self.old.key }
     {
@@ -78,19 +79,7 @@ impl LaneWork {
             return;
         }
         let cut_after = self.cut_after();
-        self.session.pass_in_threads(rt, gate, cut_after);
-    }
-
-    /// A round in which this thread makes the passes of its workers in turn. A lane that is over does nothing.
-    pub(crate) fn pass_in_turn<G: Gate>(&mut self, gate: &G)
-        requires { LetsWorkers (G.lets gate.now) most_workers }
-        ensures { self.new.key ≡ self.old.key }
-    {
-        if self.is_over() {
-            return;
-        }
-        let cut_after = self.cut_after();
-        self.session.pass_in_turn(gate, cut_after);
+        self.session.pass(rt, gate, way, cut_after);
     }
 
     /// Ends a lane that is over: its record, and the proofs of its sessions. The only error is running out of memory.

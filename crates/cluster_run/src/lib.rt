@@ -1,16 +1,12 @@
 //! The run of a plan's traffic by threads, as plain lanes or as resumable streams: sessions, in rounds of workers.
 #![tactic(auto)]
 
-mod aim;
 mod by_lane;
 pub mod clock;
 mod group;
-mod in_threads;
-mod in_turn;
 mod lanes;
 pub mod laws;
 mod parts;
-mod progress;
 pub mod rounds;
 mod run;
 mod session;

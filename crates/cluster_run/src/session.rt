@@ -2,18 +2,16 @@
 
 ghost use Rattle.std.specs.Prelude.{◌≡◌, ◌+◌, ◌*◌, ◌≤◌, ◌<◌, ◌++◌, ◌==◌, [], length, IfOk};
 ghost use Rattle.step_kinds.specs.Limits.{most_traffic_entries};
-ghost use Rattle.io_edges.specs.Gates.{LetsWorkers};
+ghost use Rattle.io_edges.specs.Gates.{LetsWorker, LetsWorkers};
 ghost use Rattle.table_lane.specs.ShownLane.{most_lane_frames};
 ghost use Rattle.lane_workers.specs.Passes.{HaveBytes};
 ghost use Rattle.cluster_run.specs.Sessions.{new_session, EndsWith};
 ghost use Rattle.cluster_run.specs.Lanes.{most_lanes};
 
-use crate::aim::Aim;
 use crate::clock::Clock;
-use crate::in_threads::pass_in_threads;
-use crate::in_turn::pass_in_turn;
 use crate::workers::{Cutting, Moving, Receiving, Sending, room_for};
 use io_edges::Gate;
+use lane_workers::{Aim, Way, round};
 use std::alloc::{AllocError, Global};
 use std::marker::Model;
 use std::thread::Threads;
@@ -44,9 +42,6 @@ pub(crate) struct SessionEnd {
 
 /// For so many frames more than a session has there is room to receive: a pass then makes as many turns at least.
 const SPARE_ROOM: usize = 1_024;
-
-/// At most so many turns a pass has where one thread makes those of all workers in turn.
-pub(crate) const MOST_TURNS: usize = 1_024;
 
 // The frames of a list with room for so many in all. Where they are fewer than half of these, they are moved into a
 // list of their own length.
@@ -99,11 +94,12 @@ impl Session {
         })
     }
 
-    /// A round of the session in which each worker has a thread of its own.
-    pub(crate) fn pass_in_threads<R: Threads + Sync, G: Gate>(
+    /// A round of the session. Its workers make their passes in this way.
+    pub(crate) fn pass<R: Threads + Sync, G: Gate>(
         &mut self,
         rt: &R,
         gate: &G,
+        way: Way,
         cut_after: Option<usize>,
     )
         requires { LetsWorkers (G.lets gate.now) (self.old.worker + 4) }
@@ -112,34 +108,29 @@ impl Session {
         ensures frames { self.new.frames ≡ self.old.frames }
     {
         let aim = self.aim(cut_after);
-        pass_in_threads(
+        round(
             rt,
-            gate,
+            way,
             &mut self.sending,
+            &|turns, worker: &mut Sending|
+                requires { (1 ≤ turns) × LetsWorker (G.lets gate.now) worker.old.key.worker }
+            { worker.pass(gate, turns) },
             &mut self.moving,
+            &|turns, worker: &mut Moving|
+                requires { (1 ≤ turns) × LetsWorker (G.lets gate.now) worker.old.key.worker }
+            { worker.pass(gate, turns) },
             &mut self.receiving,
+            &|turns, worker: &mut Receiving|
+                requires { (1 ≤ turns) × LetsWorker (G.lets gate.now) worker.old.key.worker }
+            { worker.pass(gate, turns) },
             &mut self.cutting,
+            &|turns, worker: &mut Cutting|
+                requires { (1 ≤ turns) × LetsWorker (G.lets gate.now) worker.old.key.worker }
+            {
+                worker.pass(gate);
+                turns.min(1)
+            },
             aim,
-        );
-    }
-
-    /// A round of the session in which this thread makes the passes of all workers in turn.
-    pub(crate) fn pass_in_turn<G: Gate>(&mut self, gate: &G, cut_after: Option<usize>)
-        requires { LetsWorkers (G.lets gate.now) (self.old.worker + 4) }
-        ensures worker { self.new.worker ≡ self.old.worker }
-        ensures entries { self.new.entries ≡ self.old.entries }
-        ensures frames { self.new.frames ≡ self.old.frames }
-    {
-        let aim = self.aim(cut_after);
-        let turns = (self.entries - 1).min(self.total.clamp(1, MOST_TURNS) as u32);
-        pass_in_turn(
-            gate,
-            &mut self.sending,
-            &mut self.moving,
-            &mut self.receiving,
-            &mut self.cutting,
-            aim,
-            turns,
         );
     }
 

@@ -2,8 +2,6 @@
 
 mod exchange;
 mod group;
-mod in_threads;
-mod in_turn;
 mod keeping;
 mod lanes;
 mod numbers;
@@ -11,7 +9,6 @@ mod offering;
 mod pair;
 mod parts;
 mod record;
-mod round;
 mod run;
 mod session;
 mod sink;

@@ -6,6 +6,7 @@ ghost use Rattle.cluster_run.specs.Workers.{first_turn, LetsPass};
 
 use crate::clock::Clock;
 use io_edges::Gate;
+use lane_workers::workers::{Giver, Taker, Worker};
 use lane_workers::{cut_pass, move_pass, recv_pass, send_pass};
 use std::alloc::{AllocError, Global};
 use std::marker::Model;
@@ -45,11 +46,18 @@ impl Sending {
         self.clock = self.clock.after(first, made);
         made
     }
+}
 
-    /// How many frames are left to send.
-    pub(crate) fn left(&self) -> usize
-        ensures { result ≡ self.now.left }
-    {
+impl Worker for Sending {
+    ghost use Rattle.cluster_run.specs.Workers.{SendingKey};
+
+    ghost Key = { SendingKey };
+
+    ghost key = { λ w. w.key };
+}
+
+impl Giver for Sending {
+    fn left(&self) -> usize {
         self.todo.len()
     }
 }
@@ -125,6 +133,14 @@ impl Moving {
     {
         (self.mover, self.back)
     }
+}
+
+impl Worker for Moving {
+    ghost use Rattle.cluster_run.specs.Workers.{WorkerKey};
+
+    ghost Key = { WorkerKey };
+
+    ghost key = { λ w. w.key };
 }
 
 impl Model for Moving {
@@ -220,6 +236,20 @@ impl Receiving {
     }
 }
 
+impl Worker for Receiving {
+    ghost use Rattle.cluster_run.specs.Workers.{WorkerKey};
+
+    ghost Key = { WorkerKey };
+
+    ghost key = { λ w. w.key };
+}
+
+impl Taker for Receiving {
+    fn taken(&self) -> usize {
+        self.count()
+    }
+}
+
 impl Model for Receiving {
     ghost use Rattle.cluster_run.specs.Workers.{ReceivingShown};
 
@@ -281,6 +311,14 @@ impl Cutting {
     {
         self.end
     }
+}
+
+impl Worker for Cutting {
+    ghost use Rattle.cluster_run.specs.Workers.{WorkerKey};
+
+    ghost Key = { WorkerKey };
+
+    ghost key = { λ w. w.key };
 }
 
 impl Model for Cutting {

@@ -6,15 +6,23 @@
 //! another worker.
 #![tactic(auto)]
 
+mod aim;
 mod choices;
 mod cut;
 mod idling;
+mod in_threads;
+mod in_turn;
 mod moving;
+mod progress;
 mod receiving;
+mod rounds;
 mod sending;
+pub mod workers;
 
+pub use aim::Aim;
 pub use cut::cut_pass;
 pub use idling::IDLE_TURNS;
 pub use moving::move_pass;
 pub use receiving::recv_pass;
+pub use rounds::{Way, round};
 pub use sending::send_pass;

@@ -11,6 +11,8 @@ mod pieces;
 #[cfg(test)]
 mod places;
 #[cfg(test)]
+mod polls;
+#[cfg(test)]
 mod reads;
 #[cfg(test)]
 mod turns;

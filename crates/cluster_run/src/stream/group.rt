@@ -12,6 +12,7 @@ use crate::rounds::finished;
 use crate::stream::lanes::StreamWork;
 use crate::tasks::LaneTask;
 use io_edges::Gate;
+use lane_workers::Way;
 use std::alloc::{AllocError, Global};
 use std::collections::VecDeque;
 use std::sync::Wait;
@@ -63,9 +64,9 @@ pub(crate) fn finished_group<R: Threads + Wait + Sync, G: Gate>(
         works,
         &|_, work: &mut StreamWork|
             requires { LetsWorkers (G.lets gate.now) most_stream_workers }
-        { work.pass_in_threads(rt, gate) },
+        { work.pass(rt, gate, Way::InThreads) },
         &|_, work: &mut StreamWork|
             requires { LetsWorkers (G.lets gate.now) most_stream_workers }
-        { work.pass_in_turn(gate) },
+        { work.pass(rt, gate, Way::InTurn) },
     )
 }

@@ -7,15 +7,10 @@ ghost use Rattle.lane_workers.specs.Passes.{LetsTurns};
 ghost use Rattle.cluster_run.specs.stream.Ends.{Grows};
 
 use io_edges::Gate;
+use lane_workers::IDLE_TURNS;
 use resume_stream::StreamReceiver;
 use std::alloc::AllocError;
-use std::thread;
 use table_lane::{RecvAnswer, RecvEnd, SendAnswer, SendEnd};
-
-/// After so many turns in a row in which nothing came a pass ends. After each 16th it lets other threads run.
-const MOST_EMPTY: u32 = 1_024;
-
-const EMPTY_TO_YIELD: u32 = 16;
 
 // One turn: where a frame has landed, the stream takes it, and true is answered. The only error is running out of
 // memory.
@@ -36,14 +31,7 @@ fn keep_next(end: &mut RecvEnd, receiver: &mut StreamReceiver) -> Result<bool, A
 
 // How many turns in a row were empty, with one turn more.
 fn empty_after(empty: u32, came: bool) -> u32 {
-    if came {
-        return 0;
-    }
-    let empty = empty.saturating_add(1);
-    if empty % EMPTY_TO_YIELD == 0 {
-        thread::yield_now();
-    }
-    empty
+    if came { 0 } else { empty.saturating_add(1) }
 }
 
 /// Makes at least 1 and at most so many turns, and answers how many. Before each it passes the gate with the turn's
@@ -65,7 +53,7 @@ pub(crate) fn keep_pass<G: Gate>(
 {
     let mut made = 0;
     let mut empty = 0;
-    while made < turns && empty < MOST_EMPTY {
+    while made < turns && empty < IDLE_TURNS {
         gate.at(worker, first + u64::from(made));
         let came = keep_next(end, receiver)?;
         empty = empty_after(empty, came);

@@ -14,6 +14,7 @@ use crate::stream::record::StreamRun;
 use crate::stream::session::Session;
 use crate::tasks::{LaneTask, TaskParts};
 use io_edges::Gate;
+use lane_workers::Way;
 use resume_stream::{StreamReceiver, StreamSender};
 use std::alloc::{AllocError, Global};
 use std::marker::Model;
@@ -82,8 +83,8 @@ impl StreamWork {
         }
     }
 
-    /// A round in which its workers have threads of their own. A stream that is over does nothing.
-    pub(crate) fn pass_in_threads<R: Threads + Sync, G: Gate>(&mut self, rt: &R, gate: &G)
+    /// A round, in which its workers make their passes in this way. A stream that is over does nothing.
+    pub(crate) fn pass<R: Threads + Sync, G: Gate>(&mut self, rt: &R, gate: &G, way: Way)
         requires { LetsWorkers (G.lets gate.now) most_stream_workers }
         ensures key { self.new.key ≡ self.old.key }
         ensures numbers { self.new.numbers ≡ self.old.numbers }
@@ -92,20 +93,7 @@ impl StreamWork {
             return;
         }
         let cut_after = self.cut_after();
-        self.session.pass_in_threads(rt, gate, cut_after);
-    }
-
-    /// A round in which this thread makes the passes of its workers in turn. A stream that is over does nothing.
-    pub(crate) fn pass_in_turn<G: Gate>(&mut self, gate: &G)
-        requires { LetsWorkers (G.lets gate.now) most_stream_workers }
-        ensures key { self.new.key ≡ self.old.key }
-        ensures numbers { self.new.numbers ≡ self.old.numbers }
-    {
-        if self.is_over() {
-            return;
-        }
-        let cut_after = self.cut_after();
-        self.session.pass_in_turn(gate, cut_after);
+        self.session.pass(rt, gate, way, cut_after);
     }
 
     /// Ends a stream that is over: its record, and the proofs of its sessions. The only error is running out of memory.

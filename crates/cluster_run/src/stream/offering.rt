@@ -5,9 +5,9 @@ ghost use Rattle.lane_workers.specs.Passes.{LetsTurns};
 ghost use Rattle.cluster_run.specs.stream.Ends.{GoesOn, HasOffered};
 
 use io_edges::Gate;
+use lane_workers::IDLE_TURNS;
 use resume_stream::StreamSender;
 use std::alloc::AllocError;
-use std::thread;
 use stream_laws::laws::next_follows;
 use table_lane::{SendAnswer, SendEnd};
 
@@ -32,9 +32,6 @@ pub(crate) struct Pass {
     /// What came of its last turn.
     pub(crate) last: Turn,
 }
-
-/// After so many refused turns in a row a pass ends. After each it lets other threads run.
-const MOST_REFUSED: u32 = 64;
 
 // One turn: the stream's next frame is sent, or given back where the lane refuses it. The only error is running out of
 // memory.
@@ -67,10 +64,7 @@ fn offer(sender: &mut StreamSender, end: &mut SendEnd) -> Result<Turn, AllocErro
 fn refused_after(refused: u32, turn: Turn) -> u32 {
     match turn {
         Turn::Sent => 0,
-        Turn::Refused => {
-            thread::yield_now();
-            refused.saturating_add(1)
-        }
+        Turn::Refused => refused.saturating_add(1),
         Turn::Over => refused,
     }
 }
@@ -100,7 +94,7 @@ pub(crate) fn offer_pass<G: Gate>(
         last: Turn::Refused,
     };
     let mut refused = 0;
-    while pass.turns < turns && pass.last != Turn::Over && refused < MOST_REFUSED {
+    while pass.turns < turns && pass.last != Turn::Over && refused < IDLE_TURNS {
         gate.at(worker, first + u64::from(pass.turns));
         let turn = offer(sender, end)?;
         refused = refused_after(refused, turn);

@@ -6,6 +6,7 @@ ghost use Rattle.cluster_run.specs.stream.Workers.{LetsBoth};
 
 use crate::workers::{Cutting, Moving};
 use io_edges::Gate;
+use lane_workers::workers::Worker;
 use std::marker::Model;
 use table_lane::{BackEnd, CutEnd, MoveEnd};
 
@@ -54,6 +55,14 @@ impl PairMoving {
         let (ack_mover, ack_back) = acks.into_ends();
         (item_mover, item_back, ack_mover, ack_back)
     }
+}
+
+impl Worker for PairMoving {
+    ghost use Rattle.cluster_run.specs.stream.Workers.{PairKey};
+
+    ghost Key = { PairKey };
+
+    ghost key = { λ w. w.key };
 }
 
 impl Model for PairMoving {
@@ -109,6 +118,14 @@ impl PairCutting {
         let PairCutting { items, acks } = self;
         (items.into_end(), acks.into_end())
     }
+}
+
+impl Worker for PairCutting {
+    ghost use Rattle.cluster_run.specs.stream.Workers.{PairKey};
+
+    ghost Key = { PairKey };
+
+    ghost key = { λ w. w.key };
 }
 
 impl Model for PairCutting {

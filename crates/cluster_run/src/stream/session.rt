@@ -6,17 +6,15 @@ ghost use Rattle.lane_workers.specs.Passes.{HaveBytes};
 ghost use Rattle.table_lane.specs.NewEnds.{AreNew};
 ghost use Rattle.cluster_run.specs.stream.LaneFields.{HaveNumbers};
 ghost use Rattle.cluster_run.specs.stream.Sessions.{CanBegin, EndsWith, new_session};
-ghost use Rattle.cluster_run.specs.stream.Workers.{LetsSession};
+ghost use Rattle.cluster_run.specs.stream.Workers.{LetsBoth, LetsSession};
 
-use crate::session::MOST_TURNS;
-use crate::stream::in_threads::{Aim, pass_in_threads};
-use crate::stream::in_turn::pass_in_turn;
 use crate::stream::numbers::LaneNumbers;
 use crate::stream::pair::{PairCutting, PairMoving};
 use crate::stream::sink::{Sink, SinkEnd};
 use crate::stream::source::{ACK_ROOM, Source, SourceEnd};
 use crate::workers::{Cutting, Moving, room_for};
 use io_edges::Gate;
+use lane_workers::{Aim, Way, round};
 use resume_stream::{StreamReceiver, StreamSender};
 use std::alloc::{AllocError, Global};
 use std::marker::Model;
@@ -91,7 +89,7 @@ impl Session {
             Moving::new(item_mover, item_back, item_worker + 1),
             Moving::new(ack_mover, ack_back, ack_worker + 1),
         );
-        let source = Source::new(sender, item_send, ack_recv, got, numbers);
+        let source = Source::new(sender, item_send, ack_recv, got, numbers, total);
         let sink = Sink::new(receiver, item_recv, ack_send, numbers, total);
         let cutting = PairCutting::new(
             Cutting::new(item_cut, item_worker + 3),
@@ -107,11 +105,12 @@ impl Session {
         })
     }
 
-    /// A round of the session in which its workers have threads of their own.
-    pub(crate) fn pass_in_threads<R: Threads + Sync, G: Gate>(
+    /// A round of the session. Its workers make their passes in this way.
+    pub(crate) fn pass<R: Threads + Sync, G: Gate>(
         &mut self,
         rt: &R,
         gate: &G,
+        way: Way,
         cut_after: Option<usize>,
     )
         requires { LetsSession (G.lets gate.now) self.old.first }
@@ -120,34 +119,29 @@ impl Session {
         ensures ever { self.old.ever ≤ self.new.ever }
     {
         let aim = self.aim(cut_after);
-        pass_in_threads(
+        round(
             rt,
-            gate,
+            way,
             &mut self.source,
+            &|turns, worker: &mut Source|
+                requires { (1 ≤ turns) × LetsBoth (G.lets gate.now) worker.old.key.workers }
+            { worker.pass(gate, turns) },
             &mut self.moving,
+            &|turns, worker: &mut PairMoving|
+                requires { (1 ≤ turns) × LetsBoth (G.lets gate.now) worker.old.key.workers }
+            { worker.pass(gate, turns) },
             &mut self.sink,
+            &|turns, worker: &mut Sink|
+                requires { (1 ≤ turns) × LetsBoth (G.lets gate.now) worker.old.key.workers }
+            { worker.pass(gate, turns) },
             &mut self.cutting,
+            &|turns, worker: &mut PairCutting|
+                requires { (1 ≤ turns) × LetsBoth (G.lets gate.now) worker.old.key.workers }
+            {
+                worker.pass(gate);
+                turns.min(1)
+            },
             aim,
-        );
-    }
-
-    /// A round of the session in which this thread makes the passes of all workers in turn.
-    pub(crate) fn pass_in_turn<G: Gate>(&mut self, gate: &G, cut_after: Option<usize>)
-        requires { LetsSession (G.lets gate.now) self.old.first }
-        ensures first { self.new.first ≡ self.old.first }
-        ensures key { self.new.key ≡ self.old.key }
-        ensures ever { self.old.ever ≤ self.new.ever }
-    {
-        let aim = self.aim(cut_after);
-        let turns = (self.entries - 1).min(self.total.clamp(1, MOST_TURNS) as u32);
-        pass_in_turn(
-            gate,
-            &mut self.source,
-            &mut self.moving,
-            &mut self.sink,
-            &mut self.cutting,
-            aim,
-            turns,
         );
     }
 
@@ -156,6 +150,7 @@ impl Session {
         Aim {
             total: self.total,
             cut_after,
+            entries: self.entries,
         }
     }
 

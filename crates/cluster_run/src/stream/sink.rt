@@ -11,6 +11,7 @@ use crate::clock::Clock;
 use crate::stream::keeping::{acknowledge, keep_pass};
 use crate::stream::numbers::LaneNumbers;
 use io_edges::Gate;
+use lane_workers::workers::{Taker, Worker};
 use resume_stream::StreamReceiver;
 use std::alloc::AllocError;
 use std::marker::Model;
@@ -88,24 +89,25 @@ impl Sink {
         }
     }
 
-    /// Makes at most so many turns that keep, and one that acknowledges.
-    pub(crate) fn pass<G: Gate>(&mut self, gate: &G, turns: u32)
+    /// Makes at most so many turns that keep, and one that acknowledges. It answers how many the first were.
+    pub(crate) fn pass<G: Gate>(&mut self, gate: &G, turns: u32) -> u32
         requires { LetsBoth (G.lets gate.now) self.old.key.workers }
         ensures { self.new.key ≡ self.old.key }
     {
-        self.keep(gate, turns);
+        let made = self.keep(gate, turns);
         self.acknowledge(gate);
+        made
     }
 
-    // The turns that keep. After running out of memory there are none.
-    fn keep<G: Gate>(&mut self, gate: &G, turns: u32)
+    // The turns that keep, and how many they were. After running out of memory there are none.
+    fn keep<G: Gate>(&mut self, gate: &G, turns: u32) -> u32
         requires { LetsWorker (G.lets gate.now) self.old.key.workers.items }
         ensures { self.new.key ≡ self.old.key }
     {
         let kept = self.receiver.items().len();
         let turns = turns_within(kept, turns);
         if turns == 0 || self.is_wanting {
-            return;
+            return 0;
         }
         let first = self.clock.first(turns);
         let worker = self.clock.worker();
@@ -117,8 +119,14 @@ impl Sink {
             first,
             turns,
         ) {
-            Ok(made) => self.clock = self.clock.after(first, made),
-            Err(AllocError) => self.is_wanting = true,
+            Ok(made) => {
+                self.clock = self.clock.after(first, made);
+                made
+            }
+            Err(AllocError) => {
+                self.is_wanting = true;
+                0
+            }
         }
     }
 
@@ -169,6 +177,20 @@ impl Sink {
             recv,
             send,
         })
+    }
+}
+
+impl Worker for Sink {
+    ghost use Rattle.cluster_run.specs.stream.Workers.{SinkKey};
+
+    ghost Key = { SinkKey };
+
+    ghost key = { λ w. w.key };
+}
+
+impl Taker for Sink {
+    fn taken(&self) -> usize {
+        self.kept()
     }
 }
 

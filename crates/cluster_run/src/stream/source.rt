@@ -9,9 +9,10 @@ ghost use Rattle.cluster_run.specs.stream.Workers.{LetsBoth, after_first, first_
 
 use crate::clock::Clock;
 use crate::stream::numbers::LaneNumbers;
-use crate::stream::offering::{Pass, Turn, offer_pass};
+use crate::stream::offering::{Turn, offer_pass};
 use crate::workers::Receiving;
 use io_edges::Gate;
+use lane_workers::workers::{Giver, Worker};
 use resume_stream::StreamSender;
 use std::alloc::AllocError;
 use std::marker::Model;
@@ -26,6 +27,8 @@ pub(crate) struct Source {
     pub(crate) end: SendEnd,
     pub(crate) acks: Receiving,
     pub(crate) clock: Clock,
+    /// At most so many frames are left to give in this session.
+    pub(crate) left: usize,
     /// Whether there was no memory for a frame.
     pub(crate) is_wanting: bool,
 }
@@ -49,7 +52,7 @@ pub(crate) const ACK_ROOM: usize = 1_024;
 const ACK_TURNS: u32 = 4;
 
 impl Source {
-    /// The source of a stream in a new session, by the numbers of its two lanes, with a list that has room for
+    /// The source of a stream of so many items in a new session, by the numbers of its two lanes. The list has room for
     /// `ACK_ROOM` acknowledgements. Nothing was sent or received.
     pub(crate) fn new(
         sender: StreamSender,
@@ -57,6 +60,7 @@ impl Source {
         recv: RecvEnd,
         got: FrameList,
         numbers: LaneNumbers,
+        total: usize,
     ) -> Source
         requires numbers { HaveNumbers numbers }
         requires offered { HasOffered sender send.part.sent }
@@ -71,24 +75,25 @@ impl Source {
             end: send,
             acks: Receiving::new(recv, got, ACK_ROOM, 4 * numbers.acks + 2),
             clock: Clock::new(4 * numbers.items),
+            left: total.saturating_add(1),
             is_wanting: false,
         }
     }
 
-    /// Makes at most so many turns that give, and a few that receive. It answers how far the first came.
-    pub(crate) fn pass<G: Gate>(&mut self, gate: &G, turns: u32) -> Pass
+    /// Makes at most so many turns that give, and a few that receive. It answers how many the first were.
+    pub(crate) fn pass<G: Gate>(&mut self, gate: &G, turns: u32) -> u32
         requires some { 1 ≤ turns }
         requires gate { LetsBoth (G.lets gate.now) self.old.key.workers }
         ensures key { self.new.key ≡ self.old.key }
         ensures ever { self.old.ever ≤ self.new.ever }
     {
-        let pass = self.give(gate, turns);
+        let made = self.give(gate, turns);
         self.acks.pass(gate, ACK_TURNS);
-        pass
+        made
     }
 
-    // The turns that give.
-    fn give<G: Gate>(&mut self, gate: &G, turns: u32) -> Pass
+    // The turns that give, and how many they were.
+    fn give<G: Gate>(&mut self, gate: &G, turns: u32) -> u32
         requires some { 1 ≤ turns }
         requires gate { LetsWorker (G.lets gate.now) self.old.key.workers.items }
         ensures key { self.new.key ≡ self.old.key }
@@ -99,15 +104,16 @@ impl Source {
         match offer_pass(&mut self.sender, &mut self.end, gate, worker, first, turns) {
             Ok(pass) => {
                 self.clock = self.clock.after(first, pass.turns);
-                pass
+                self.left = match pass.last {
+                    Turn::Over => 0,
+                    Turn::Sent | Turn::Refused => self.left.saturating_sub(pass.sent as usize),
+                };
+                pass.turns
             }
             Err(AllocError) => {
                 self.is_wanting = true;
-                Pass {
-                    turns: 0,
-                    sent: 0,
-                    last: Turn::Over,
-                }
+                self.left = 0;
+                0
             }
         }
     }
@@ -125,6 +131,22 @@ impl Source {
             recv,
             acks,
         }
+    }
+}
+
+impl Worker for Source {
+    ghost use Rattle.cluster_run.specs.stream.Workers.{SourceKey};
+
+    ghost Key = { SourceKey };
+
+    ghost key = { λ w. w.key };
+
+    ghost reach = { λ w. w.ever };
+}
+
+impl Giver for Source {
+    fn left(&self) -> usize {
+        self.left
     }
 }
 

@@ -8,9 +8,9 @@ use std::{hint, thread};
 /// A worker that carries frames.
 #[derive(Clone, Copy, Debug, PartialEq, Eq, Drop)]
 pub(crate) enum Role {
-    Sender,
+    Giver,
     Mover,
-    Receiver,
+    Taker,
 }
 
 /// How often a worker told that a pass of it came to something. The words beside the count are read by nobody: they
@@ -34,21 +34,21 @@ impl News {
     }
 }
 
-/// What each worker told, how many frames were received so far, whether the round is over, and who has left it.
+/// What each worker told, how many frames were taken so far, whether the round is over, and who has left it.
 #[derive(Drop)]
 pub(crate) struct Progress {
-    sent: News,
+    given: News,
     moved: News,
-    received: News,
+    taken: News,
     frames: AtomicU64,
     over: AtomicBool,
-    sender_left: AtomicBool,
+    giver_left: AtomicBool,
     mover_left: AtomicBool,
     is_small: bool,
 }
 
-/// So often the cutting worker looks how far the receiver is, and lets other threads run, before it cuts anyway.
-pub(crate) const CUT_LOOKS: u32 = 20_000;
+/// So often the cutting worker looks how far the taker is, and lets other threads run, before it cuts anyway.
+const CUT_LOOKS: u32 = 20_000;
 
 /// In a ring of fewer entries a worker looks at the ring itself, since what the others do in between is few entries.
 const SMALL_RING: u32 = 16;
@@ -56,11 +56,11 @@ const SMALL_RING: u32 = 16;
 /// There it lets other threads run after so many idle passes in a row.
 const PASSES_TO_YIELD: u32 = 4;
 
-/// So many turns has a pass of the sender there, at most.
-const SMALL_SENDER_TURNS: u32 = 4_096;
+/// So many turns has a pass of the giver there, at most.
+const SMALL_GIVER_TURNS: u32 = 4_096;
 
 /// In a larger ring it has fewer: it tells of its frames then, and the mover moves them while it sends others.
-const SENDER_TURNS: u32 = 64;
+const GIVER_TURNS: u32 = 64;
 
 /// In a larger ring a worker looks at most so often for news before its next pass.
 const LOOKS: u32 = 1_024;
@@ -68,8 +68,8 @@ const LOOKS: u32 = 1_024;
 /// After so many of them it lets other threads run at each.
 const QUICK_LOOKS: u32 = 64;
 
-/// After so many idle passes in a row a sender leaves the round, in a large ring and in a small one.
-pub(crate) const IDLE_PASSES: u32 = 16;
+/// After so many idle passes in a row a giver leaves the round, in a large ring and in a small one.
+const IDLE_PASSES: u32 = 16;
 
 const SMALL_IDLE_PASSES: u32 = 4_096;
 
@@ -77,25 +77,25 @@ impl Progress {
     /// At the start of a round at a ring of so many entries, where nothing is known and nobody has left.
     pub(crate) fn new(entries: u32) -> Progress {
         Progress {
-            sent: News::new(),
+            given: News::new(),
             moved: News::new(),
-            received: News::new(),
+            taken: News::new(),
             frames: AtomicU64::new(0),
             over: AtomicBool::new(false),
-            sender_left: AtomicBool::new(false),
+            giver_left: AtomicBool::new(false),
             mover_left: AtomicBool::new(false),
             is_small: entries < SMALL_RING,
         }
     }
 
-    /// How many turns a pass of the sender has, at most.
-    pub(crate) fn sender_turns(&self) -> u32
+    /// How many turns a pass of the giver has, at most.
+    pub(crate) fn giver_turns(&self) -> u32
         ensures { 1 ≤ result }
     {
         if self.is_small {
-            SMALL_SENDER_TURNS
+            SMALL_GIVER_TURNS
         } else {
-            SENDER_TURNS
+            GIVER_TURNS
         }
     }
 
@@ -105,9 +105,9 @@ impl Progress {
             return;
         }
         let news = match role {
-            Role::Sender => &self.sent,
+            Role::Giver => &self.given,
             Role::Mover => &self.moved,
-            Role::Receiver => &self.received,
+            Role::Taker => &self.taken,
         };
         news.count.fetch_add(1, Ordering::SeqCst);
     }
@@ -118,8 +118,8 @@ impl Progress {
             return 0;
         }
         match role {
-            Role::Sender | Role::Receiver => self.moved.count(),
-            Role::Mover => self.sent.count().wrapping_add(self.received.count()),
+            Role::Giver | Role::Taker => self.moved.count(),
+            Role::Mover => self.given.count().wrapping_add(self.taken.count()),
         }
     }
 
@@ -156,9 +156,9 @@ impl Progress {
         }
     }
 
-    /// Tells that so many frames were received in the session.
-    pub(crate) fn count(&self, received: usize) {
-        self.frames.store(received as u64, Ordering::SeqCst);
+    /// Tells that so many frames were taken in the session.
+    pub(crate) fn count(&self, taken: usize) {
+        self.frames.store(taken as u64, Ordering::SeqCst);
     }
 
     /// Ends the round: each worker makes no pass more than the one that it is in.
@@ -171,18 +171,18 @@ impl Progress {
         self.over.load(Ordering::SeqCst)
     }
 
-    /// The sender leaves the round: the mover makes passes until one is idle, and leaves too.
-    pub(crate) fn sender_leaves(&self) {
-        self.sender_left.store(true, Ordering::SeqCst);
-        self.tell(Role::Sender);
+    /// The giver leaves the round: the mover makes passes until one is idle, and leaves too.
+    pub(crate) fn giver_leaves(&self) {
+        self.giver_left.store(true, Ordering::SeqCst);
+        self.tell(Role::Giver);
     }
 
-    /// Whether the sender has left the round.
-    pub(crate) fn has_sender_left(&self) -> bool {
-        self.sender_left.load(Ordering::SeqCst)
+    /// Whether the giver has left the round.
+    pub(crate) fn has_giver_left(&self) -> bool {
+        self.giver_left.load(Ordering::SeqCst)
     }
 
-    /// The mover leaves the round: the receiver makes passes until one is idle, and leaves too.
+    /// The mover leaves the round: the taker makes passes until one is idle, and leaves too.
     pub(crate) fn mover_leaves(&self) {
         self.mover_left.store(true, Ordering::SeqCst);
         self.tell(Role::Mover);
@@ -193,9 +193,9 @@ impl Progress {
         self.mover_left.load(Ordering::SeqCst)
     }
 
-    /// Lets other threads run until so many frames were received, the round is over, the mover has left it, or it has
+    /// Lets other threads run until so many frames were taken, the round is over, the mover has left it, or it has
     /// looked often.
-    pub(crate) fn await_received(&self, count: usize) {
+    pub(crate) fn await_taken(&self, count: usize) {
         for _ in 0..CUT_LOOKS {
             if self.frames.load(Ordering::SeqCst) >= count as u64
                 || self.is_over()
