@@ -1,16 +1,17 @@
 -- Steps and answers as JSON objects: a name, which is the word of the script or of the report, and a member for each of
 -- its numbers, names and bytes.
-use Rattle.std.specs.Prelude.{ℕ, Option, Some, None, List, [], ◌++◌, codes}
+use Rattle.std.specs.Prelude.{ℕ, List, [], ◌++◌, codes}
+use Rattle.step_kinds.specs.Shapes.{answer_bytes, answer_shape}
 use Rattle.step_kinds.specs.declared.names.Side.{Side}
 use Rattle.step_kinds.specs.declared.plan.Plan.{Plan}
+use Rattle.step_kinds.specs.declared.shapes.ShapeEnd.{ShapeEnd}
+use Rattle.step_kinds.specs.declared.shapes.ShapeEnd.TheVariants as ends
 use Rattle.step_kinds.specs.declared.steps.Answer.{Answer}
-use Rattle.step_kinds.specs.declared.steps.Answer.TheVariants.{Ok as Done, OkSession, OkNumber, NotDown, Dirty, NotEnabled, Spent, NotUp, NotClosing, LinkDown, Already, Offered, NotYet, Version, Queues, Windows, Size, Up, NotChecked, NotReady, Joined, Closed, TooLong, Busy, Stopped, Again, Idle, Posted, Nothing, Blocked, Landed, OutOfTurn, Empty, PeerDown, VerDiffers, Long, ReadyFrame, Copied, Delivered, Cleared, Acked, Awake, Irq as IrqBits, Mem, PadValue, QueueShown, Short, Filtered, To, Flood}
-use Rattle.step_kinds.specs.declared.steps.Label.{Label}
 use Rattle.step_kinds.specs.declared.steps.Step.{Step}
 use Rattle.step_kinds.specs.declared.steps.Step.TheVariants.{Enable, Train, Break, DropDone, Clean, Offer, Check, Ready, Join, Begin, QpDown, Xbegin, Post, Land, Look, Copy, Clear, Ack, Wake, Irq, Mask, Unmask, Spad, Poke, ShowMem, ShowPad, ShowQueue, Relay, Xnext}
 use Rattle.pair_model.specs.Plans.{dev_plan, switch_plan}
 use Rattle.report_text.specs.Report.{pair_name, side_text}
-use Rattle.trace_command.specs.Words.{bytes_member, label_object, named_object, number_member, text_member, wide_member}
+use Rattle.trace_command.specs.Words.{bytes_member, label_object, named_members, named_object, number_member, text_member}
 
 -- Where a step is made
 
@@ -104,101 +105,16 @@ step_object plan step = named_object (step_name step) (step_members plan step)
 
 -- Answers
 
-abbrev pub answer_name : Answer → List ℕ
-answer_name Done = codes "ok"
-answer_name (OkSession session) = codes "ok"
-answer_name (OkNumber n) = codes "ok"
-answer_name NotDown = codes "notdown"
-answer_name Dirty = codes "dirty"
-answer_name NotEnabled = codes "notenabled"
-answer_name Spent = codes "spent"
-answer_name NotUp = codes "notup"
-answer_name NotClosing = codes "notclosing"
-answer_name LinkDown = codes "linkdown"
-answer_name Already = codes "already"
-answer_name (Offered index) = codes "offered"
-answer_name NotYet = codes "notyet"
-answer_name (Version seen own) = codes "version"
-answer_name (Queues seen own) = codes "queues"
-answer_name (Windows seen own) = codes "windows"
-answer_name (Size seen cap) = codes "size"
-answer_name Up = codes "up"
-answer_name NotChecked = codes "notchecked"
-answer_name NotReady = codes "notready"
-answer_name Joined = codes "joined"
-answer_name Closed = codes "closed"
-answer_name (TooLong len most) = codes "toolong"
-answer_name Busy = codes "busy"
-answer_name Stopped = codes "stopped"
-answer_name (Again head tail) = codes "again"
-answer_name Idle = codes "idle"
-answer_name (Posted label) = codes "posted"
-answer_name Nothing = codes "nothing"
-answer_name Blocked = codes "blocked"
-answer_name (Landed label) = codes "landed"
-answer_name OutOfTurn = codes "outofturn"
-answer_name Empty = codes "empty"
-answer_name PeerDown = codes "peerdown"
-answer_name (VerDiffers seen own) = codes "verdiffers"
-answer_name (Long len most) = codes "long"
-answer_name (ReadyFrame n len) = codes "ready"
-answer_name (Copied n part) = codes "copied"
-answer_name (Delivered n frame) = codes "frame"
-answer_name (Cleared n) = codes "cleared"
-answer_name (Acked n) = codes "acked"
-answer_name Awake = codes "awake"
-answer_name (IrqBits bits) = codes "irq"
-answer_name (Mem bytes) = codes "mem"
-answer_name (PadValue value) = codes "pad"
-answer_name (QueueShown count label) = codes "queue"
-answer_name (Short len) = codes "short"
-answer_name Filtered = codes "filtered"
-answer_name (To port) = codes "to"
-answer_name (Flood count) = codes "flood"
-
--- what was read, and what the side itself has there
-abbrev pub seen_and_own : ℕ → ℕ → List ℕ
-seen_and_own seen own = number_member (codes ",\"seen\":") seen ++ number_member (codes ",\"own\":") own
-
--- a length, and the most that there may be
-abbrev pub len_and_most : ℕ → ℕ → List ℕ
-len_and_most len most = number_member (codes ",\"len\":") len ++ number_member (codes ",\"max\":") most
-
-abbrev pub label_member : Label → List ℕ
-label_member label = codes ",\"label\":" ++ label_object label
-
--- the write at a place in flight; none where no write is there
-abbrev pub shown_member : Option Label → List ℕ
-shown_member None = codes ",\"label\":null"
-shown_member (Some label) = label_member label
+-- what stands behind the numbers
+abbrev pub end_member : ShapeEnd → List ℕ → List ℕ
+end_member ends.Nothing bytes = []
+end_member (ends.Label label) bytes = codes ",\"label\":" ++ label_object label
+end_member ends.NoLabel bytes = codes ",\"label\":null"
+end_member ends.Frame bytes = bytes_member (codes ",\"frame\":") bytes
+end_member ends.Bytes bytes = bytes_member (codes ",\"bytes\":") bytes
 
 abbrev pub answer_members : Answer → List ℕ
-answer_members (OkSession session) = number_member (codes ",\"session\":") session
-answer_members (OkNumber n) = number_member (codes ",\"number\":") n
-answer_members (Offered index) = number_member (codes ",\"index\":") index
-answer_members (Version seen own) = seen_and_own seen own
-answer_members (Queues seen own) = seen_and_own seen own
-answer_members (Windows seen own) = seen_and_own seen own
-answer_members (Size seen cap) = wide_member (codes ",\"seen\":") seen ++ number_member (codes ",\"cap\":") cap
-answer_members (TooLong len most) = len_and_most len most
-answer_members (Again head tail) = number_member (codes ",\"head\":") head ++ number_member (codes ",\"tail\":") tail
-answer_members (Posted label) = label_member label
-answer_members (Landed label) = label_member label
-answer_members (VerDiffers seen own) = seen_and_own seen own
-answer_members (Long len most) = len_and_most len most
-answer_members (ReadyFrame n len) = number_member (codes ",\"number\":") n ++ number_member (codes ",\"len\":") len
-answer_members (Copied n part) = number_member (codes ",\"number\":") n ++ number_member (codes ",\"part\":") part
-answer_members (Delivered n frame) = number_member (codes ",\"number\":") n ++ bytes_member (codes ",\"frame\":") frame
-answer_members (Cleared n) = number_member (codes ",\"number\":") n
-answer_members (Acked n) = number_member (codes ",\"number\":") n
-answer_members (IrqBits bits) = number_member (codes ",\"bits\":") bits
-answer_members (Mem bytes) = bytes_member (codes ",\"bytes\":") bytes
-answer_members (PadValue value) = number_member (codes ",\"value\":") value
-answer_members (QueueShown count label) = number_member (codes ",\"count\":") count ++ shown_member label
-answer_members (Short len) = number_member (codes ",\"len\":") len
-answer_members (To port) = number_member (codes ",\"port\":") port
-answer_members (Flood count) = number_member (codes ",\"count\":") count
-answer_members answer = []
+answer_members answer = named_members (answer_shape answer).numbers ++ end_member (answer_shape answer).end (answer_bytes answer)
 
 abbrev pub answer_object : Answer → List ℕ
-answer_object answer = named_object (answer_name answer) (answer_members answer)
+answer_object answer = named_object (answer_shape answer).word (answer_members answer)

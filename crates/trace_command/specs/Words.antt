@@ -4,8 +4,13 @@ use Rattle.std.specs.Prelude.{ℕ, ◌^◌, Bool, true, false, List, [], ◌∷�
 use Rattle.std.specs.Fmt.{decimal}
 use Rattle.std.specs.List.{flat_map}
 use Rattle.hex.specs.Hex.{encode_lower}
+use Rattle.step_kinds.specs.Shapes.{label_shape}
+use Rattle.step_kinds.specs.declared.shapes.NamedNumber.{NamedNumber}
+use Rattle.step_kinds.specs.declared.shapes.NumberName.{NumberName}
+use Rattle.step_kinds.specs.declared.shapes.NumberName.TheVariants as name
+use Rattle.step_kinds.specs.declared.shapes.Numbers.{Numbers}
+use Rattle.step_kinds.specs.declared.shapes.Numbers.TheVariants as are
 use Rattle.step_kinds.specs.declared.steps.Label.{Label}
-use Rattle.step_kinds.specs.declared.steps.Label.TheVariants.{Chunk, Len, Ver, Flag, Down, Bell, Index, Pad, Raw}
 
 -- A member after another: its name stands with the comma and the colon, as in `,"queue":`.
 
@@ -45,35 +50,45 @@ numbers_list numbers = codes "[" ++ separated numbers ++ codes "]"
 abbrev pub named_object : List ℕ → List ℕ → List ℕ
 named_object name members = codes "{\"name\":\"" ++ name ++ codes "\"" ++ members ++ codes "}"
 
--- a queue and the number of an entry
-abbrev pub of_entry : ℕ → ℕ → List ℕ
-of_entry queue n = number_member (codes ",\"queue\":") queue ++ number_member (codes ",\"number\":") n
+-- the name of a number of an answer or of a label
+abbrev pub number_name : NumberName → List ℕ
+number_name name.Bits = codes ",\"bits\":"
+number_name name.Cap = codes ",\"cap\":"
+number_name name.Count = codes ",\"count\":"
+number_name name.Head = codes ",\"head\":"
+number_name name.Index = codes ",\"index\":"
+number_name name.Len = codes ",\"len\":"
+number_name name.Max = codes ",\"max\":"
+number_name name.Number = codes ",\"number\":"
+number_name name.Offset = codes ",\"offset\":"
+number_name name.Own = codes ",\"own\":"
+number_name name.Part = codes ",\"part\":"
+number_name name.Port = codes ",\"port\":"
+number_name name.Queue = codes ",\"queue\":"
+number_name name.Seen = codes ",\"seen\":"
+number_name name.SeenSize = codes ",\"seen\":"
+number_name name.Session = codes ",\"session\":"
+number_name name.Tail = codes ",\"tail\":"
+number_name name.Value = codes ",\"value\":"
+number_name name.Window = codes ",\"window\":"
 
-abbrev pub label_name : Label → List ℕ
-label_name (Chunk queue n part) = codes "chunk"
-label_name (Len queue n) = codes "len"
-label_name (Ver queue n) = codes "ver"
-label_name (Flag queue n) = codes "flag"
-label_name (Down queue n) = codes "down"
-label_name (Bell queue) = codes "bell"
-label_name (Index queue n) = codes "index"
-label_name (Pad i value) = codes "pad"
-label_name (Raw window offset len) = codes "raw"
+-- is it a number that may be larger?
+abbrev pub is_wide : NumberName → Bool
+is_wide name.SeenSize = true
+is_wide other = false
 
-abbrev pub label_members : Label → List ℕ
-label_members (Chunk queue n part) = of_entry queue n ++ number_member (codes ",\"part\":") part
-label_members (Len queue n) = of_entry queue n
-label_members (Ver queue n) = of_entry queue n
-label_members (Flag queue n) = of_entry queue n
-label_members (Down queue n) = of_entry queue n
-label_members (Bell queue) = number_member (codes ",\"queue\":") queue
-label_members (Index queue n) = of_entry queue n
-label_members (Pad i value) = number_member (codes ",\"index\":") i ++ number_member (codes ",\"value\":") value
-label_members (Raw window offset len) =
-    number_member (codes ",\"window\":") window ++ number_member (codes ",\"offset\":") offset ++ number_member (codes ",\"len\":") len
+-- a number with its name
+abbrev pub named_member : NamedNumber → List ℕ
+named_member number = if is_wide number.name then wide_member (number_name number.name) number.value else number_member (number_name number.name) number.value
+
+abbrev pub named_members : Numbers → List ℕ
+named_members are.None = []
+named_members (are.One first) = named_member first
+named_members (are.Two first second) = named_member first ++ named_member second
+named_members (are.Three first second third) = named_member first ++ named_member second ++ named_member third
 
 abbrev pub label_object : Label → List ℕ
-label_object label = named_object (label_name label) (label_members label)
+label_object label = named_object (label_shape label).word (named_members (label_shape label).numbers)
 
 abbrev pub truth_text : Bool → List ℕ
 truth_text true = codes "true"

@@ -1,16 +1,16 @@
 //! Members of a JSON object. A member's name is given with the comma before it and the colon after it.
 
-ghost use Rattle.std.specs.Prelude.{◌≡◌, ◌++◌, OnOk};
+ghost use Rattle.std.specs.Prelude.{◌≡◌, ◌++◌, OnOk, codes};
 ghost use Rattle.std.specs.Fmt.{decimal};
-ghost use Rattle.trace_command.specs.Words.{bytes_member, label_members, label_object, number_member, numbers_list, of_entry, text_member, wide_member};
+ghost use Rattle.trace_command.specs.Words.{bytes_member, is_wide as may_be_wide, label_object, named_member, named_members, number_member, numbers_list, text_member, wide_member};
 ghost use Rattle.trace_command.specs.Writes.{numbers_in};
 
-use crate::words::label_name;
+use crate::words::number_name;
 use crate::writes::SideNumbers;
 use itoa::Buffer;
 use report_text::append::{push_hex, push_word};
 use std::alloc::AllocError;
-use step_kinds::Label;
+use step_kinds::{Label, NamedNumber, NumberName, Numbers, Shape};
 
 // Numbers below are numbers in a trace.
 const EXACT_NUMBERS: u64 = 1 << 53;
@@ -98,52 +98,59 @@ pub fn push_numbers_in(text: &mut Vec<u8>, side: &SideNumbers) -> Result<(), All
 pub fn push_label(text: &mut Vec<u8>, label: &Label) -> Result<(), AllocError>
     ensures { OnOk result (text.new.items ≡ text.old.items ++ label_object label.now) }
 {
-    push_word(text, "{\"name\":\"")?;
-    push_word(text, label_name(label))?;
-    push_word(text, "\"")?;
-    push_label_members(text, label)?;
+    push_shape(text, &label.shape())?;
     push_word(text, "}")
 }
 
-// Adds the numbers of a label.
-fn push_label_members(text: &mut Vec<u8>, label: &Label) -> Result<(), AllocError>
-    ensures { OnOk result (text.new.items ≡ text.old.items ++ label_members label.now) }
+/// Begins an object of an answer or of a label: its word is its name, and its numbers are members. The errors are those
+/// of [`push_word`].
+pub fn push_shape(text: &mut Vec<u8>, shape: &Shape) -> Result<(), AllocError>
+    ensures { OnOk result (text.new.items ≡ text.old.items ++ codes "{\"name\":\"" ++ shape.now.word.now ++ codes "\"" ++ named_members shape.now.numbers) }
 {
-    match label {
-        Label::Chunk {
-            queue,
-            number,
-            part,
-        } => {
-            push_entry(text, *queue, *number)?;
-            push_number_member(text, ",\"part\":", u64::from(*part))
+    push_word(text, "{\"name\":\"")?;
+    push_word(text, shape.word)?;
+    push_word(text, "\"")?;
+    push_named_members(text, shape.numbers)
+}
+
+// Adds the numbers of an answer or of a label.
+fn push_named_members(text: &mut Vec<u8>, numbers: Numbers) -> Result<(), AllocError>
+    ensures { OnOk result (text.new.items ≡ text.old.items ++ named_members numbers) }
+{
+    match numbers {
+        Numbers::None => Ok(()),
+        Numbers::One { first } => push_named_member(text, first),
+        Numbers::Two { first, second } => {
+            push_named_member(text, first)?;
+            push_named_member(text, second)
         }
-        Label::Len { queue, number }
-        | Label::Ver { queue, number }
-        | Label::Flag { queue, number }
-        | Label::Down { queue, number }
-        | Label::Index { queue, number } => push_entry(text, *queue, *number),
-        Label::Bell { queue } => push_number_member(text, ",\"queue\":", u64::from(*queue)),
-        Label::Pad { index, value } => {
-            push_number_member(text, ",\"index\":", u64::from(*index))?;
-            push_number_member(text, ",\"value\":", u64::from(*value))
-        }
-        Label::Raw {
-            window,
-            offset,
-            len,
+        Numbers::Three {
+            first,
+            second,
+            third,
         } => {
-            push_number_member(text, ",\"window\":", u64::from(*window))?;
-            push_number_member(text, ",\"offset\":", *offset)?;
-            push_number_member(text, ",\"len\":", u64::from(*len))
+            push_named_member(text, first)?;
+            push_named_member(text, second)?;
+            push_named_member(text, third)
         }
     }
 }
 
-// Adds a queue and the number of an entry.
-fn push_entry(text: &mut Vec<u8>, queue: u32, number: u64) -> Result<(), AllocError>
-    ensures { OnOk result (text.new.items ≡ text.old.items ++ of_entry queue number) }
+// Adds a number with its name.
+fn push_named_member(text: &mut Vec<u8>, number: NamedNumber) -> Result<(), AllocError>
+    ensures { OnOk result (text.new.items ≡ text.old.items ++ named_member number) }
 {
-    push_number_member(text, ",\"queue\":", u64::from(queue))?;
-    push_number_member(text, ",\"number\":", number)
+    let name = number_name(number.name);
+    if is_wide(number.name) {
+        push_wide_member(text, name, number.value)
+    } else {
+        push_number_member(text, name, number.value)
+    }
+}
+
+// Is it a number that may be large?
+fn is_wide(name: NumberName) -> bool
+    ensures { result ≡ may_be_wide name }
+{
+    matches!(name, NumberName::SeenSize)
 }
