@@ -3,7 +3,7 @@ use Rattle.std.specs.Prelude.{ℕ, List, [], ◌∷◌, ◌++◌, Option, Some, 
 use Rattle.hex.specs.Hex.{encode_lower}
 use Rattle.pair_model.specs.declared.LinkRefusal.{LinkRefusal}
 use Rattle.pair_model.specs.declared.LinkRefusal.TheVariants.{NotDown, Dirty, NotEnabled, NotUp, NotClosing, SessionsSpent}
-use Rattle.report_text.specs.Texts.{numbers_text}
+use Rattle.report_text.specs.Texts.{word_and_numbers}
 use Rattle.read_path.specs.declared.steps.PathAnswer.{PathAnswer}
 use Rattle.read_path.specs.declared.steps.PathAnswer.TheVariants.{Wrote, Asked, Landed, Shown, Linked}
 use Rattle.read_path.specs.declared.steps.PostAnswer.{PostAnswer}
@@ -12,10 +12,6 @@ use Rattle.read_path.specs.declared.steps.ReadAnswer.{ReadAnswer}
 use Rattle.read_path.specs.declared.steps.ReadAnswer.TheVariants.{Posted, LinkDown as ReadLinkDown}
 use Rattle.read_path.specs.declared.steps.PathLand.{PathLand}
 use Rattle.read_path.specs.declared.steps.PathLand.TheVariants.{Nothing, Blocked, Write, Request, Part, Whole}
-
--- a word and its numbers
-abbrev pub word_and_numbers : List ℕ → List ℕ → List ℕ
-word_and_numbers word numbers = word ++ numbers_text numbers
 
 abbrev pub post_text : PostAnswer → List ℕ
 post_text PostOk = codes "ok"

@@ -4,7 +4,8 @@ ghost use Rattle.std.specs.Prelude.{◌≡◌, ◌∷◌, ◌++◌, [], IfOk, On
 ghost use Rattle.std.specs.Fmt.{decimal};
 ghost use Rattle.read_path.specs.PathLog.{after_step, answer_to};
 ghost use Rattle.reads_command.specs.Report.{made_line};
-ghost use Rattle.reads_command.specs.Texts.{answer_text, land_text, link_text, post_text, read_text, refusal_text, word_and_numbers};
+ghost use Rattle.reads_command.specs.Texts.{answer_text, land_text, link_text, post_text, read_text, refusal_text};
+ghost use Rattle.report_text.specs.Texts.{word_and_numbers};
 ghost use Rattle.reads_command.specs.Steps.{Fits};
 
 use itoa::Buffer;

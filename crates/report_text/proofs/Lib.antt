@@ -2,4 +2,3 @@ pub mod Devices
 pub mod Facade
 pub mod Repeats
 pub mod Runs
-pub mod Words

@@ -23,9 +23,13 @@ values_of (are.One first) = first.value ∷ []
 values_of (are.Two first second) = first.value ∷ second.value ∷ []
 values_of (are.Three first second third) = first.value ∷ second.value ∷ third.value ∷ []
 
--- the word of a shape, and its numbers
+-- a word and its numbers
+abbrev pub word_and_numbers : List ℕ → List ℕ → List ℕ
+word_and_numbers word numbers = word ++ numbers_text numbers
+
+-- those of a shape
 abbrev pub shape_text : ShapeSeen → List ℕ
-shape_text shape = shape.word ++ numbers_text (values_of shape.numbers)
+shape_text shape = word_and_numbers shape.word (values_of shape.numbers)
 
 abbrev pub label_text : Label → List ℕ
 label_text label = shape_text (label_shape label)

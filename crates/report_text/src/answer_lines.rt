@@ -53,7 +53,7 @@ impl AnswerLines {
             gather(&mut self.text, &mut self.last)?;
             push_bytes(&mut self.text, &made.answer)?;
         }
-        self.last.put_bytes(b"\n");
+        self.last.put_word(b"\n");
         Ok(())
     }
 
@@ -127,6 +127,6 @@ fn put_line(line: &mut LineText, made: &LineAnswer)
     ensures len { length line.new ≤ length line.old + DIGITS + 1 + START_ROOM }
 {
     line.put_first(u64::from(made.line));
-    line.put_bytes(b" ");
+    line.put_word(b" ");
     put_start(line, &made.answer);
 }

@@ -2,26 +2,19 @@
 
 ghost use Rattle.std.specs.Prelude.{◌≡◌, ◌+◌, ◌*◌, ◌≤◌, ◌∷◌, ◌++◌, [], length, take};
 ghost use Rattle.std.specs.Fmt.{decimal};
-ghost use Rattle.report_text.specs.Texts.{numbers_text, values_of};
+ghost use Rattle.report_text.specs.Texts.{numbers_text, word_and_numbers};
 
 use itoa::write_digits;
 use std::marker::Model;
-use step_kinds::{NamedNumber, NumberName, Numbers};
 
 /// The most bytes of a `LineText`.
-pub const ROOM: usize = 576;
+pub const ROOM: usize = 512;
 
-/// The most letters of a word that an answer or a label begins with.
-pub const WORD_ROOM: usize = 10;
+/// The most bytes of a number and the space before it.
+pub const SPACED: usize = 21;
 
 /// The most digits of a number.
 pub const DIGITS: usize = 20;
-
-// The most bytes of a number and the space before it.
-const SPACED: usize = DIGITS + 1;
-
-/// The most bytes of the numbers of an answer or of a label, each after a space.
-pub const NUMBERS_ROOM: usize = 3 * SPACED;
 
 // A number with its digits, which begin where the array does. Contracts see the number.
 #[derive(Drop)]
@@ -78,7 +71,7 @@ pub struct LineText {
     bytes: [u8; ROOM],
     len: usize,
     first: Digits,
-    number: Digits,
+    spaced: Digits,
 }
 
 impl LineText {
@@ -91,7 +84,7 @@ impl LineText {
             bytes: [0; ROOM],
             len: 0,
             first: Digits::new(),
-            number: Digits::new(),
+            spaced: Digits::new(),
         }
     }
 
@@ -119,55 +112,20 @@ impl LineText {
         &self.bytes[..self.len]
     }
 
-    /// Adds the bytes of a literal. There is room for them.
+    /// Adds a word. There is room for it.
     #[inline(always)]
     #[tactic(auto, using(std::proofs::lemmas::List::Edits::paste_more))]
-    pub fn put_bytes<const N: usize>(&mut self, bytes: &[u8; N])
+    pub fn put_word<const N: usize>(&mut self, word: &[u8; N])
         requires { N + length self.old ≤ ROOM }
-        ensures text { self.new ≡ self.old ++ bytes.now }
+        ensures text { self.new ≡ self.old ++ word.now }
         ensures len { length self.new ≡ length self.old + N }
     {
         // A loop over a few bytes of a literal becomes one or two stores, and no call that copies.
         let end = self.len;
         for place in 0..N {
-            self.bytes[end + place] = bytes[place];
+            self.bytes[end + place] = word[place];
         }
         self.len = end + N;
-    }
-
-    /// Adds a word, of at least two letters. There is room for the longest.
-    #[inline]
-    pub fn put_word(&mut self, word: &str)
-        requires least { 2 ≤ length word.now }
-        requires most { length word.now ≤ WORD_ROOM }
-        requires room { WORD_ROOM + length self.old ≤ ROOM }
-        ensures text { self.new ≡ self.old ++ word.now }
-        ensures len { length self.new ≡ length self.old + length word.now }
-    {
-        let letters = word.as_bytes();
-        if letters.len() < 4 {
-            self.put_ends::<2>(letters);
-        } else if letters.len() < 8 {
-            self.put_ends::<4>(letters);
-        } else {
-            self.put_ends::<8>(letters);
-        }
-    }
-
-    // Adds from N to twice as many letters. Two copies of N letters, which may overlap, are a few loads and stores, and
-    // no call that copies.
-    #[inline(always)]
-    fn put_ends<const N: usize>(&mut self, letters: &[u8])
-        requires least { N ≤ length letters.now }
-        requires most { length letters.now ≤ 2 * N }
-        requires room { length letters.now + length self.old ≤ ROOM }
-        ensures text { self.new ≡ self.old ++ letters.now }
-        ensures len { length self.new ≡ length self.old + length letters.now }
-    {
-        let (start, last) = (self.len, letters.len() - N);
-        self.bytes[start..start + N].copy_from_slice(&letters[..N]);
-        self.bytes[start + last..start + last + N].copy_from_slice(&letters[last..last + N]);
-        self.len = start + letters.len();
     }
 
     /// Adds the number that a line begins with. There is room for the longest.
@@ -191,68 +149,88 @@ impl LineText {
         ensures len { length self.new ≡ length self.old + len }
     {
         let end = self.len;
-        self.put_bytes(bytes);
+        self.put_word(bytes);
         self.len = end + len;
     }
 
-    /// Adds numbers, each after a space. There is room for the longest.
+    /// Adds a word and a number. There is room for the longest.
     #[inline]
-    pub fn put_numbers(&mut self, numbers: Numbers)
-        requires { NUMBERS_ROOM + length self.old ≤ ROOM }
-        ensures text { self.new ≡ self.old ++ numbers_text (values_of numbers) }
-        ensures len { length self.new ≤ length self.old + NUMBERS_ROOM }
+    pub fn put_one<const N: usize>(&mut self, word: &[u8; N], one: u64)
+        requires { N + SPACED + length self.old ≤ ROOM }
+        ensures text { self.new ≡ self.old ++ word_and_numbers word.now (one ∷ []) }
+        ensures len { length self.new ≤ length self.old + N + SPACED }
     {
-        match numbers {
-            Numbers::None => (),
-            Numbers::One { first } => self.put_number(first),
-            Numbers::Two { first, second } => {
-                self.put_number(first);
-                self.put_number(second);
-            }
-            Numbers::Three {
-                first,
-                second,
-                third,
-            } => {
-                self.put_number(first);
-                self.put_number(second);
-                self.put_number(third);
-            }
-        }
+        self.put_word(word);
+        self.put_spaced(one);
+    }
+
+    /// Adds a word and two numbers. There is room for the longest.
+    #[inline]
+    pub fn put_two<const N: usize>(&mut self, word: &[u8; N], one: u64, two: u64)
+        requires { N + 2 * SPACED + length self.old ≤ ROOM }
+        ensures text { self.new ≡ self.old ++ word_and_numbers word.now (one ∷ two ∷ []) }
+        ensures len { length self.new ≤ length self.old + N + 2 * SPACED }
+    {
+        self.put_word(word);
+        self.put_spaced(one);
+        self.put_spaced(two);
+    }
+
+    /// Adds a word and three numbers, the last of which isn't kept. There is room for the longest.
+    #[inline]
+    pub fn put_three<const N: usize>(&mut self, word: &[u8; N], one: u64, two: u64, three: u64)
+        requires { N + 3 * SPACED + length self.old ≤ ROOM }
+        ensures text { self.new ≡ self.old ++ word_and_numbers word.now (one ∷ two ∷ three ∷ []) }
+        ensures len { length self.new ≤ length self.old + N + 3 * SPACED }
+    {
+        self.put_word(word);
+        self.put_spaced(one);
+        self.put_spaced(two);
+        self.put_fresh(three);
     }
 
     // Adds a number after a space. Most have one digit.
     #[inline]
-    fn put_number(&mut self, number: NamedNumber)
+    fn put_spaced(&mut self, number: u64)
         requires { SPACED + length self.old ≤ ROOM }
-        ensures text { self.new ≡ self.old ++ numbers_text (number.value ∷ []) }
+        ensures text { self.new ≡ self.old ++ numbers_text (number ∷ []) }
         ensures len { length self.new ≤ length self.old + SPACED }
     {
-        if number.value < 10 {
-            self.put_bytes(&[b' ', b'0' + number.value as u8]);
+        if number < 10 {
+            self.put_word(&[b' ', b'0' + number as u8]);
         } else {
             self.put_long(number);
         }
     }
 
-    // Adds a number of any digits after a space. Those of a frame's number are kept: most often the next line has it
-    // too.
-    #[inline(never)]
-    fn put_long(&mut self, number: NamedNumber)
+    /// Adds a number after a space. Its digits aren't kept: it is seldom that of the line before. There is room for the
+    /// longest.
+    pub fn put_fresh(&mut self, number: u64)
         requires { SPACED + length self.old ≤ ROOM }
-        ensures text { self.new ≡ self.old ++ numbers_text (number.value ∷ []) }
+        ensures text { self.new ≡ self.old ++ numbers_text (number ∷ []) }
         ensures len { length self.new ≤ length self.old + SPACED }
     {
-        self.put_bytes(b" ");
-        if matches!(number.name, NumberName::Number) {
-            self.number.set(number.value);
-            let (bytes, len) = (self.number.bytes, self.number.len);
-            self.put_some(&bytes, len);
+        if number < 10 {
+            self.put_word(&[b' ', b'0' + number as u8]);
         } else {
             let mut digits = Digits::new();
-            digits.set(number.value);
+            digits.set(number);
+            self.put_word(b" ");
             self.put_some(&digits.bytes, digits.len);
         }
+    }
+
+    // Adds a number of any digits after a space.
+    #[inline(never)]
+    fn put_long(&mut self, number: u64)
+        requires { SPACED + length self.old ≤ ROOM }
+        ensures text { self.new ≡ self.old ++ numbers_text (number ∷ []) }
+        ensures len { length self.new ≤ length self.old + SPACED }
+    {
+        self.put_word(b" ");
+        self.spaced.set(number);
+        let (bytes, len) = (self.spaced.bytes, self.spaced.len);
+        self.put_some(&bytes, len);
     }
 }
 

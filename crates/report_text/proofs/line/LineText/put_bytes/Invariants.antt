@@ -1,7 +1,0 @@
--- The bytes before the index stand at their places.
-use Rattle.std.proofs.Common.{◌≡◌}
-use Rattle.std.proofs.Math.Seq.{paste}
-use Rattle.report_text.proofs.line.LineText.put_bytes.Given as goal
-
-abbrev pub invariant-loop-place : goal.invariant-loop-place
-invariant-loop-place g l = l.self-inside.bytes ≡ paste l.initial.self-inside.bytes l.end l.bytes l.place
