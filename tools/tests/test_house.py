@@ -145,7 +145,8 @@ class Crates(Folder):
         """51 crates are allowed, and not 52."""
         lines = [f"crate_{number}:\n" for number in range(51)]
         self.assertEqual(self.house("".join(lines)), (0, []))
-        self.assertEqual(self.house("".join([*lines, "more:\n"])), (1, ["crates.txt:1: 52 crates, and at most 51 may stand here"]))
+        told = "crates.txt:1: 52 crates, and at most 51 may stand here"
+        self.assertEqual(self.house("".join([*lines, "more:\n"])), (1, [told]))
 
     def test_chain(self) -> None:
         """A chain of 13 crates is allowed, and not one of 14. Libraries of the kit don't count."""
