@@ -1,5 +1,5 @@
 -- A trace, made of what its functions give.
-use Rattle.std.proofs.Common.{◌≡◌, ◌∙◌, ℕ, List, ◌++◌, refl, ap}
+use Rattle.std.proofs.Common.{◌≡◌, ◌∙◌, ℕ, List, ◌++◌, Result, Ok, Err, OnOk, refl, ap}
 use Rattle.step_kinds.specs.declared.plan.Counters.{Counters}
 use Rattle.step_kinds.specs.declared.plan.Line.{Line}
 use Rattle.step_kinds.specs.declared.plan.Plan.{Plan}
@@ -30,3 +30,10 @@ trace_is declared steps lanes devs lines text of_lines of_lanes of_devs is =
     ∙ ap (λ (given : List LaneCount). (head declared.pairs ++ own) ++ ending declared given devs) of_lanes
     ∙ ap (λ (given : List Counters). (head declared.pairs ++ own) ++ ending declared (filled counts) given) of_devs
     ∙ ap (λ (shown : List ℕ). (head declared.pairs ++ own) ++ ((shown ++ device_lines declared.devs (device_counts plan (log_of_plan plan))) ++ end_line)) (lines_of_filled (count_lines declared.pairs) (lane_line declared.pairs) (λ count. refl) counts)
+
+-- A text that ends with counts ends with what they are.
+pub ending_same : {T E : Type 0} (declared : Plan) (lanes given : List LaneCount) (devs counted : List Counters) (old new : List ℕ) (result : Result T E) →
+    lanes ≡ given → devs ≡ counted → OnOk result (new ≡ old ++ ending declared lanes devs) → OnOk result (new ≡ old ++ ending declared given counted)
+ending_same declared lanes given devs counted old new (Err error) same_lanes same_devs is = tt
+ending_same declared lanes given devs counted old new (Ok done) same_lanes same_devs is =
+    is ∙ ap (λ (shown : List LaneCount). old ++ ending declared shown devs) same_lanes ∙ ap (λ (shown : List Counters). old ++ ending declared given shown) same_devs
