@@ -205,6 +205,47 @@ class Constants(Folder):
         self.assertEqual(self.house("", ""), [told])
 
 
+class Names(Folder):
+    """The list of names with two homes, and a sample of names."""
+
+    def house(self, *words: str) -> tuple[int, str, str]:
+        """What tools/house says where two crates define one name: status, output and error."""
+        files = {"crates.txt": "low:\nhigh: low\n", "crates/low/specs/Lib.antt": "abbrev pub same : Numbers\n",
+                 "crates/high/specs/Lib.antt": "pub same : Numbers\n"}
+        (self.folder / "tools").mkdir(exist_ok=True)
+        shutil.copy(TOOLS / "house", self.folder / "tools")
+        for name, content in files.items():
+            (self.folder / name).parent.mkdir(parents=True, exist_ok=True)
+            self.write(name, content)
+        subprocess.run(["git", "init", "-q"], cwd=self.folder, check=True)
+        words = (str(self.folder / "tools" / "house"), *words)
+        done = subprocess.run(words, capture_output=True, text=True, check=False)
+        return done.returncode, done.stdout, done.stderr
+
+    def test_bound(self) -> None:
+        """The list may have as many names as its head says, and a head that says none is refused."""
+        last = "names: {} found, 1 allowed by tools/house_names.txt\n"
+        head, line = "# At most {} names have two homes.\n", "same high low: why.\n"
+        (self.folder / "tools").mkdir()
+        self.write("tools/house_names.txt", head.format(1) + line)
+        self.assertEqual(self.house("names"), (0, last.format(0), ""))
+        self.write("tools/house_names.txt", head.format(0) + line)
+        told = "tools/house_names.txt:1: 1 names, and at most 0 may stand here\n"
+        self.assertEqual(self.house("names"), (1, told + last.format(1), ""))
+        self.write("tools/house_names.txt", "# Some names.\n" + line)
+        told = "tools/house_names.txt:1: the head doesn't say how many names the list may have\n"
+        self.assertEqual(self.house("names"), (1, "", told))
+
+    def test_sample(self) -> None:
+        """A sample has 16 names of code, 14 of definitions and 10 of lemmas: the same ones for the same seed."""
+        done = tool("house", "sample", "1")
+        kinds = [line.split()[0] for line in done.stdout.splitlines()]
+        self.assertEqual(kinds, ["code"] * 16 + ["definition"] * 14 + ["lemma"] * 10)
+        self.assertEqual(tool("house", "sample", "1").stdout, done.stdout)
+        self.assertNotEqual(tool("house", "sample", "2").stdout, done.stdout)
+        self.assertEqual(len(set(done.stdout.splitlines())), 40)
+
+
 class Worked(Folder):
     """The files of the tests of worked_scripts, as tools/worked-scripts reads them."""
 
