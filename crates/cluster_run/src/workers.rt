@@ -5,9 +5,8 @@ ghost use Rattle.table_lane.specs.Tries.{tries};
 ghost use Rattle.cluster_run.specs.Workers.{first_turn, LetsPass};
 
 use crate::clock::Clock;
-use io_edges::Gate;
 use lane_workers::workers::{Giver, Taker, Worker};
-use lane_workers::{cut_pass, move_pass, recv_pass, send_pass};
+use lane_workers::{TurnGate, cut_pass, move_pass, recv_pass, send_pass};
 use std::alloc::{AllocError, Global};
 use std::marker::Model;
 use step_kinds::FrameList;
@@ -30,7 +29,7 @@ impl Sending {
     /// Makes at least 1 and at most so many turns, and answers how many. What it was given to send stays, sent or not.
     /// A turn with a frame left loads the link word once. Turns go on from those of the passes before, and the gate has
     /// to let the worker pass before each.
-    pub(crate) fn pass<G: Gate>(&mut self, gate: &G, turns: u32) -> u32
+    pub(crate) fn pass<G: TurnGate>(&mut self, gate: &G, turns: u32) -> u32
         requires some { 1 ≤ turns }
         requires gate { LetsPass (G.lets gate.now) self.old.key.worker self.old.turn turns }
         ensures key { self.new.key ≡ self.old.key }
@@ -101,7 +100,7 @@ impl Moving {
     /// Makes at least 1 and at most so many turns, and answers how many; `turns` is at least 1. In each it tries to
     /// move, and loads once on the way back. The worker's number is the seed of its choices. Turns go on from those of
     /// the passes before, and the gate has to let it pass before each.
-    pub fn pass<G: Gate>(&mut self, gate: &G, turns: u32) -> u32
+    pub fn pass<G: TurnGate>(&mut self, gate: &G, turns: u32) -> u32
         requires some { 1 ≤ turns }
         requires gate { LetsPass (G.lets gate.now) self.old.key.worker self.old.turn turns }
         ensures key { self.new.key ≡ self.old.key }
@@ -197,7 +196,7 @@ impl Receiving {
     /// Makes at most so many turns, and no more than the list has room for. It answers how many: at least one, where
     /// there is room and `turns` isn't 0. Each turn loads a flag once, and what was received before stays in front.
     /// Turns go on from those of the passes before, and the gate has to let the worker pass before each.
-    pub fn pass<G: Gate>(&mut self, gate: &G, turns: u32) -> u32
+    pub fn pass<G: TurnGate>(&mut self, gate: &G, turns: u32) -> u32
         requires gate { LetsPass (G.lets gate.now) self.old.key.worker self.old.turn (min turns self.old.spare) }
         ensures key { self.new.key ≡ self.old.key }
         ensures kept { take (length self.old.got) self.new.got ≡ self.old.got }
@@ -285,7 +284,7 @@ impl Cutting {
     }
 
     /// Makes its one turn: the link is cut. The gate has to let the worker pass before it.
-    pub fn pass<G: Gate>(&mut self, gate: &G)
+    pub fn pass<G: TurnGate>(&mut self, gate: &G)
         requires gate { G.lets gate.now self.old.key.worker (first_turn self.old.turn 1) }
         ensures key { self.new.key ≡ self.old.key }
         ensures cut { self.new.cut ≡ true }

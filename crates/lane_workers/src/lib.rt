@@ -1,7 +1,7 @@
 //! The passes of a lane's workers: each makes turns of one end, or of the mover and the way back together.
 //!
 //! A pass makes at least one turn and at most as many as it is given, and answers how many. Before each turn it passes
-//! a [`Gate`](io_edges::Gate). It may end before its last turn: where nothing is left to do, or after [`IDLE_TURNS`]
+//! a [`TurnGate`]. It may end before its last turn: where nothing is left to do, or after [`IDLE_TURNS`]
 //! turns in a row that did nothing. Its caller can let other threads run then. It takes no memory and never waits for
 //! another worker.
 #![tactic(auto)]
@@ -17,6 +17,7 @@ mod progress;
 mod receiving;
 mod rounds;
 mod sending;
+mod turn_gate;
 pub mod workers;
 
 pub use aim::Aim;
@@ -26,3 +27,4 @@ pub use moving::move_pass;
 pub use receiving::recv_pass;
 pub use rounds::{Way, round};
 pub use sending::send_pass;
+pub use turn_gate::TurnGate;

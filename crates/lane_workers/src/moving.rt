@@ -8,7 +8,7 @@ ghost use Rattle.lane_workers.specs.Passes.{LetsTurns};
 
 use crate::choices::Choices;
 use crate::idling::{Idling, Turn};
-use io_edges::Gate;
+use crate::turn_gate::TurnGate;
 use table_lane::laws::{each_move_is_a_try, each_step_back_is_a_load};
 use table_lane::{BackAnswer, BackEnd, MoveAnswer, MoveEnd};
 
@@ -45,7 +45,7 @@ fn move_turn(mover: &mut MoveEnd, back: &mut BackEnd, choices: &mut Choices) -> 
 ///
 /// `turns` has to be at least 1, and `first + turns` fits a `u64`. The gate has to let the worker pass before each
 /// turn.
-pub fn move_pass<G: Gate>(
+pub fn move_pass<G: TurnGate>(
     mover: &mut MoveEnd,
     back: &mut BackEnd,
     choices: u64,
@@ -71,7 +71,7 @@ pub fn move_pass<G: Gate>(
     let mut idling = Idling::new();
     let mut made = 0;
     while made < turns {
-        gate.at(worker, first + u64::from(made));
+        gate.admit(worker, first + u64::from(made));
         let turn = move_turn(mover, back, &mut choices);
         made += 1;
         if idling.ends_with(turn) {

@@ -4,7 +4,7 @@ ghost use Rattle.table_lane.specs.LaneNames.{Idle};
 ghost use Rattle.lane_workers.specs.Passes.{LetsTurns};
 
 use crate::idling::{Idling, Turn};
-use io_edges::Gate;
+use crate::turn_gate::TurnGate;
 use step_kinds::FrameList;
 use table_lane::{RecvAnswer, RecvEnd};
 
@@ -39,7 +39,7 @@ fn recv_turn(end: &mut RecvEnd, got: &mut FrameList) -> Turn
 ///
 /// `got` has to have room for `turns` frames. `turns` is at least 1, and `first + turns` fits a `u64`. The gate has to
 /// let the worker pass before each turn.
-pub fn recv_pass<G: Gate>(
+pub fn recv_pass<G: TurnGate>(
     end: &mut RecvEnd,
     got: &mut FrameList,
     gate: &G,
@@ -64,7 +64,7 @@ pub fn recv_pass<G: Gate>(
     let mut idling = Idling::new();
     let mut made = 0;
     while made < turns {
-        gate.at(worker, first + u64::from(made));
+        gate.admit(worker, first + u64::from(made));
         let turn = recv_turn(end, got);
         made += 1;
         if idling.ends_with(turn) {

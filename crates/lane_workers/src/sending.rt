@@ -4,7 +4,7 @@ ghost use Rattle.table_lane.specs.ShownLane.{most_lane_frames};
 ghost use Rattle.lane_workers.specs.Passes.{HaveBytes, LetsTurns};
 
 use crate::idling::{Idling, Turn};
-use io_edges::Gate;
+use crate::turn_gate::TurnGate;
 use step_kinds::FrameList;
 use table_lane::{SendAnswer, SendEnd};
 
@@ -48,7 +48,7 @@ fn send_turn(end: &mut SendEnd, todo: &mut FrameList) -> Turn
 ///
 /// Each frame in `todo` has to have a byte. What was sent and what is to be sent are fewer than 2^62 frames. `turns` is
 /// at least 1, and `first + turns` fits a `u64`. The gate has to let the worker pass before each turn.
-pub fn send_pass<G: Gate>(
+pub fn send_pass<G: TurnGate>(
     end: &mut SendEnd,
     todo: &mut FrameList,
     gate: &G,
@@ -76,7 +76,7 @@ pub fn send_pass<G: Gate>(
     let mut idling = Idling::new();
     let mut made = 0;
     while made < turns {
-        gate.at(worker, first + u64::from(made));
+        gate.admit(worker, first + u64::from(made));
         let turn = send_turn(end, todo);
         made += 1;
         if idling.ends_with(turn) {

@@ -6,8 +6,7 @@ ghost use Rattle.table_lane.specs.ShownLane.{most_lane_frames};
 ghost use Rattle.lane_workers.specs.Passes.{LetsTurns};
 ghost use Rattle.cluster_run.specs.stream.Ends.{Grows};
 
-use io_edges::Gate;
-use lane_workers::IDLE_TURNS;
+use lane_workers::{IDLE_TURNS, TurnGate};
 use resume_stream::StreamReceiver;
 use std::alloc::AllocError;
 use table_lane::{RecvAnswer, RecvEnd, SendAnswer, SendEnd};
@@ -36,7 +35,7 @@ fn empty_after(empty: u32, came: bool) -> u32 {
 
 /// Makes at least 1 and at most so many turns, and answers how many. Before each it passes the gate with the turn's
 /// number, counted from `first`. It ends early where nothing came for a while. The only error is running out of memory.
-pub(crate) fn keep_pass<G: Gate>(
+pub(crate) fn keep_pass<G: TurnGate>(
     end: &mut RecvEnd,
     receiver: &mut StreamReceiver,
     gate: &G,
@@ -54,7 +53,7 @@ pub(crate) fn keep_pass<G: Gate>(
     let mut made = 0;
     let mut empty = 0;
     while made < turns && empty < IDLE_TURNS {
-        gate.at(worker, first + u64::from(made));
+        gate.admit(worker, first + u64::from(made));
         let came = keep_next(end, receiver)?;
         empty = empty_after(empty, came);
         made += 1;

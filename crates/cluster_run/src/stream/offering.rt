@@ -4,8 +4,7 @@ ghost use Rattle.std.specs.Prelude.{◌≡◌, ◌+◌, ◌-◌, ◌≤◌, ◌<
 ghost use Rattle.lane_workers.specs.Passes.{LetsTurns};
 ghost use Rattle.cluster_run.specs.stream.Ends.{GoesOn, HasOffered};
 
-use io_edges::Gate;
-use lane_workers::IDLE_TURNS;
+use lane_workers::{IDLE_TURNS, TurnGate};
 use resume_stream::StreamSender;
 use std::alloc::AllocError;
 use stream_laws::laws::next_follows;
@@ -72,7 +71,7 @@ fn refused_after(refused: u32, turn: Turn) -> u32 {
 /// Makes at least 1 and at most so many turns. Before each it passes the gate with the turn's number, counted from
 /// `first`. It ends early where nothing is left to send, where the link was cut, or where the ring had no room for a
 /// while. The only error is running out of memory.
-pub(crate) fn offer_pass<G: Gate>(
+pub(crate) fn offer_pass<G: TurnGate>(
     sender: &mut StreamSender,
     end: &mut SendEnd,
     gate: &G,
@@ -95,7 +94,7 @@ pub(crate) fn offer_pass<G: Gate>(
     };
     let mut refused = 0;
     while pass.turns < turns && pass.last != Turn::Over && refused < IDLE_TURNS {
-        gate.at(worker, first + u64::from(pass.turns));
+        gate.admit(worker, first + u64::from(pass.turns));
         let turn = offer(sender, end)?;
         refused = refused_after(refused, turn);
         pass = pass.with(turn);

@@ -5,7 +5,7 @@ ghost use Rattle.cluster_run.specs.stream.WorkerFields.{key_of_both};
 ghost use Rattle.cluster_run.specs.stream.Workers.{LetsBoth};
 
 use crate::workers::{Cutting, Moving};
-use io_edges::Gate;
+use lane_workers::TurnGate;
 use lane_workers::workers::Worker;
 use std::marker::Model;
 use table_lane::{BackEnd, CutEnd, MoveEnd};
@@ -29,7 +29,7 @@ impl PairMoving {
     }
 
     /// Makes at most so many turns on the lane of items, and answers how many, and makes a few on the other.
-    pub(crate) fn pass<G: Gate>(&mut self, gate: &G, turns: u32) -> u32
+    pub(crate) fn pass<G: TurnGate>(&mut self, gate: &G, turns: u32) -> u32
         requires some { 1 ≤ turns }
         requires gate { LetsBoth (G.lets gate.now) self.old.key.workers }
         ensures key { self.new.key ≡ self.old.key }
@@ -92,7 +92,7 @@ impl PairCutting {
     }
 
     /// Makes the one turn of both: the link is cut.
-    pub(crate) fn pass<G: Gate>(&mut self, gate: &G)
+    pub(crate) fn pass<G: TurnGate>(&mut self, gate: &G)
         requires gate { LetsBoth (G.lets gate.now) self.old.key.workers }
         ensures key { self.new.key ≡ self.old.key }
         ensures cut { self.new.cut ≡ true }

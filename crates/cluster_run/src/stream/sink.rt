@@ -10,7 +10,7 @@ ghost use Rattle.cluster_run.specs.stream.Workers.{LetsBoth, after_first, first_
 use crate::clock::Clock;
 use crate::stream::keeping::{acknowledge, keep_pass};
 use crate::stream::numbers::LaneNumbers;
-use io_edges::Gate;
+use lane_workers::TurnGate;
 use lane_workers::workers::{Taker, Worker};
 use resume_stream::StreamReceiver;
 use std::alloc::AllocError;
@@ -90,7 +90,7 @@ impl Sink {
     }
 
     /// Makes at most so many turns that keep, and one that acknowledges. It answers how many the first were.
-    pub(crate) fn pass<G: Gate>(&mut self, gate: &G, turns: u32) -> u32
+    pub(crate) fn pass<G: TurnGate>(&mut self, gate: &G, turns: u32) -> u32
         requires { LetsBoth (G.lets gate.now) self.old.key.workers }
         ensures { self.new.key ≡ self.old.key }
     {
@@ -100,7 +100,7 @@ impl Sink {
     }
 
     // The turns that keep, and how many they were. After running out of memory there are none.
-    fn keep<G: Gate>(&mut self, gate: &G, turns: u32) -> u32
+    fn keep<G: TurnGate>(&mut self, gate: &G, turns: u32) -> u32
         requires { LetsWorker (G.lets gate.now) self.old.key.workers.items }
         ensures { self.new.key ≡ self.old.key }
     {
@@ -131,12 +131,12 @@ impl Sink {
     }
 
     // The turn that acknowledges, where so many items more are kept.
-    fn acknowledge<G: Gate>(&mut self, gate: &G)
+    fn acknowledge<G: TurnGate>(&mut self, gate: &G)
         requires { LetsWorker (G.lets gate.now) self.old.key.workers.acks }
         ensures { self.new.key ≡ self.old.key }
     {
         let first = self.ack_clock.first(1);
-        gate.at(self.ack_clock.worker(), first);
+        gate.admit(self.ack_clock.worker(), first);
         self.ack_clock = self.ack_clock.after(first, 1);
         let kept = self.receiver.items().len();
         if kept <= self.told || kept - self.told < self.step {

@@ -11,7 +11,7 @@ use crate::clock::Clock;
 use crate::stream::numbers::LaneNumbers;
 use crate::stream::offering::{Turn, offer_pass};
 use crate::workers::Receiving;
-use io_edges::Gate;
+use lane_workers::TurnGate;
 use lane_workers::workers::{Giver, Worker};
 use resume_stream::StreamSender;
 use std::alloc::AllocError;
@@ -81,7 +81,7 @@ impl Source {
     }
 
     /// Makes at most so many turns that give, and a few that receive. It answers how many the first were.
-    pub(crate) fn pass<G: Gate>(&mut self, gate: &G, turns: u32) -> u32
+    pub(crate) fn pass<G: TurnGate>(&mut self, gate: &G, turns: u32) -> u32
         requires some { 1 ≤ turns }
         requires gate { LetsBoth (G.lets gate.now) self.old.key.workers }
         ensures key { self.new.key ≡ self.old.key }
@@ -93,7 +93,7 @@ impl Source {
     }
 
     // The turns that give, and how many they were.
-    fn give<G: Gate>(&mut self, gate: &G, turns: u32) -> u32
+    fn give<G: TurnGate>(&mut self, gate: &G, turns: u32) -> u32
         requires some { 1 ≤ turns }
         requires gate { LetsWorker (G.lets gate.now) self.old.key.workers.items }
         ensures key { self.new.key ≡ self.old.key }
