@@ -90,7 +90,7 @@ no_pages plan side pages down none =
       only = λ page there. absurd (nothing page (subst (λ (pages : List ℕ). Contains pages page) none there));
     }
 
--- Where just the pages of a side's index words are promised, they are the pages of a fresh pair that starts up.
+-- If just the pages of a side's index words are promised, they are the pages of a fresh pair that starts up.
 pub word_pages : (plan same : PairPlan) (side : Side) (old pages : List ℕ) → plan.up ≡ true → same ≡ plan → old ≡ [] → PagesGrow (TouchesIndexWord same side) old pages → AreIndexWordsPromised same side pages
     → AreFreshPages plan side pages
 word_pages plan same side old pages up plans none grow promised =

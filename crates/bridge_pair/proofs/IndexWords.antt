@@ -26,7 +26,7 @@ pub word_grows : (plan : PairPlan) (side : Side) (queue at : ℕ) (old now new :
 word_grows plan side queue at old now new is_at among so_far next =
     grows_further (TouchesIndexWord plan side) (Touches at 4) old now new so_far next (λ page touch. (queue, among, subst (λ at. Touches at 4 page) is_at touch))
 
--- Where the index words of all queues before one are promised, and then its own too, those of all up to it are.
+-- If the index words of all queues before one are promised, and then its own too, those of all up to it are.
 pub word_promised : (plan : PairPlan) (side : Side) (queue at : ℕ) (now new : List ℕ) → at ≡ own_index_word plan side queue
     → ((k : ℕ) → k < queue → ArePromised (own_index_word plan side k) 4 now) → PagesGrow (Touches at 4) now new → ArePromised at 4 new
     → (k : ℕ) → k < queue + 1 → ArePromised (own_index_word plan side k) 4 new

@@ -1,4 +1,4 @@
--- Two bridges have the same ends exactly where both ends of the two pairs are the same.
+-- Two bridges have the same ends if and only if both ends of the two pairs are the same.
 use Rattle.std.proofs.Common.{◌≡◌, ℕ, List, ap, subst, sym}
 use Rattle.bridge_regs.specs.Doorbell.{Doorbell}
 use Rattle.pair_model.specs.Both.{Both}

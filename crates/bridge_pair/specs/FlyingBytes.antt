@@ -17,7 +17,7 @@ place_of (Many buffer) = buffer.value
 abbrev pub bytes_seen : Inside → List ℕ
 bytes_seen bytes = take bytes.len (place_of bytes.kept)
 
--- so many bytes fit the place
+-- this many bytes fit the place
 abbrev pub Fit : ℕ → Kept → Type 0
 Fit len (Few bytes) = len ≤ most_few_bytes
 Fit len (Many buffer) = len ≤ most_write_bytes

@@ -59,7 +59,7 @@ impl Endpoint {
         })
     }
 
-    /// An end in the same state, with the same promises. The only error is running out of memory.
+    /// An end in the same state, with the same promises. Returns an error if memory runs out.
     pub fn copy_of(&self, alloc: Global) -> Result<Endpoint, AllocError>
         ensures { IfOk result (λ copy. copy ≡ self.now) }
     {
@@ -342,7 +342,7 @@ fn copy_of_queue(
     Ok(copied)
 }
 
-// Makes room for so many writes in an empty queue, and adds copies of those of another.
+// Makes room for this many writes in an empty queue, and adds copies of those of another.
 fn push_copies(
     copied: &mut Queue<FlyingWrite>,
     queue: &Queue<FlyingWrite>,
@@ -363,7 +363,7 @@ fn push_copies(
     Ok(())
 }
 
-// Makes so many buffers at least.
+// Makes this many buffers at least.
 fn make_buffers(alloc: Global, buffers: &mut Vec<Buffer>, count: usize) -> Result<(), AllocError>
     ensures stay { vec_len buffers.old ≤ vec_len buffers.new }
     ensures ok { OnOk result (count ≤ vec_len buffers.new) }

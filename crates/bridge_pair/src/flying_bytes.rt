@@ -59,7 +59,7 @@ impl FlyingBytes {
         }
     }
 
-    /// The same bytes, in a buffer of their own where they stand in one. The only error is running out of memory.
+    /// The same bytes, in a buffer of their own where they stand in one. Returns an error if memory runs out.
     pub fn copy_of(&self, alloc: Global) -> Result<FlyingBytes, AllocError>
         ensures { IfOk result (λ copy. copy ≡ self.now) }
     {

@@ -23,7 +23,7 @@ pub enum Arrival {
 }
 
 impl Arrival {
-    /// The same arrival. The only error is running out of memory.
+    /// The same arrival. Returns an error if memory runs out.
     pub fn copy_of(&self, alloc: Global) -> Result<Arrival, AllocError>
         ensures { IfOk result (λ copy. copy ≡ self.now) }
     {
@@ -107,7 +107,7 @@ impl FlyingWrite {
         }
     }
 
-    /// A write with the same label and order, which arrives alike. The only error is running out of memory.
+    /// A write with the same label and order, which arrives alike. Returns an error if memory runs out.
     pub fn copy_of(&self, alloc: Global) -> Result<FlyingWrite, AllocError>
         ensures { IfOk result (λ copy. copy ≡ self.now) }
     {

@@ -46,7 +46,7 @@ pub fn fresh_endpoint(alloc: Global, plan: &PairPlan, side: Side) -> Result<Endp
     Ok(end)
 }
 
-// The set of so many queues, from 0.
+// The set of this many queues, from 0.
 fn all_queues(queues: u32) -> u32
     requires { queues ≤ most_queues }
     ensures { result ≡ all_below queues }

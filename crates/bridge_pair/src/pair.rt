@@ -68,7 +68,7 @@ impl Pair {
     ///
     /// # Errors
     ///
-    /// [`AllocError`] from out of memory alone.
+    /// [`AllocError`] if memory runs out.
     pub fn new(alloc: Global, plan: &PairPlan) -> Result<Pair, AllocError>
         requires { IsPair plan.now }
         ensures fresh { IfOk result (λ pair. pair ≡ fresh_bridge plan.now (record { a = pages_of pair A; b = pages_of pair B })) }
@@ -174,7 +174,7 @@ impl Pair {
     /// # Errors
     ///
     /// [`AllocError`] from out of memory, or where `usize::MAX` pairs share the plan already, since its [`Rc`] can't
-    /// count one more. No memory has room for so many.
+    /// count one more. No memory has room for that many.
     pub fn copy_of(&self, alloc: Global) -> Result<Pair, AllocError>
         ensures { IfOk result (λ copy. copy ≡ self.now) }
     {
@@ -247,7 +247,7 @@ impl Pair {
     ///
     /// # Errors
     ///
-    /// [`AllocError`] from out of memory, or where the side's flight can't take so many, as
+    /// [`AllocError`] from out of memory, or where the side's flight can't take that many, as
     /// [`posted_queue::Queue::promise`] has it. Then nothing changes.
     pub fn promise(&mut self, side: Side, more: usize) -> Result<(), AllocError>
         ensures ok { OnOk result (self.new ≡ with_flight self.old side (promised (flight_of self.old side) more)) }
@@ -259,7 +259,7 @@ impl Pair {
         }
     }
 
-    /// Gives back the promise of `count` writes of a side, which are not posted after all. So many must be promised.
+    /// Gives back the promise of `count` writes of a side, which are not posted after all. This many must be promised.
     pub fn give_back(&mut self, side: Side, count: usize)
         requires { count ≤ (flight_of self.old side).spare }
         ensures { self.new ≡ with_flight self.old side (given_back (flight_of self.old side) count) }
@@ -271,13 +271,12 @@ impl Pair {
     }
 
     /// Promises each page that `len` bytes of a side's memory touch, from the address `at` on, so that they may be
-    /// written. They have to lie in the memory. What was promised before stays so, and no byte changes. Where all these
+    /// written. They have to lie in the memory. What was promised before stays so, and no byte changes. If all these
     /// pages were promised before, nothing is done, and the answer is `Ok`.
     ///
     /// # Errors
     ///
-    /// [`AllocError`] from out of memory alone. Some of the pages may then be promised, and no others; nothing else
-    /// changes.
+    /// [`AllocError`] if memory runs out. Some of the pages may then be promised, and no others; nothing else changes.
     pub fn promise_range(&mut self, side: Side, at: u64, len: u64) -> Result<(), AllocError>
         requires { at + len ≤ length (bytes_of self.old side) }
         ensures rest { self.new ≡ with_pages self.old side (pages_of self.new side) }
@@ -367,7 +366,7 @@ impl Pair {
     }
 
     /// Lands the write at this place of those that a side has in flight, counted from 0 for the one that was posted
-    /// first, and answers its label. Its bytes are stored in the peer's memory, or its scratchpad or doorbell bit is
+    /// first, and returns its label. Its bytes are stored in the peer's memory, or its scratchpad or doorbell bit is
     /// set there.
     ///
     /// [`LandAnswer::Blocked`] comes where the write may not pass one before it, by kind and traffic class (PCI Express
@@ -395,7 +394,7 @@ impl Pair {
     }
 
     /// The label of the write at this place of those that a side has in flight, counted from 0 for the one that was
-    /// posted first. `None` exactly where no more than `place` are in flight.
+    /// posted first. `None` if and only if no more than `place` are in flight.
     pub fn label_at(&self, side: Side, place: usize) -> Option<Label>
         ensures { result ≡ option_map (λ (flying : Flying). flying.label) (slice_get (flight_of self.now side).writes place) }
     {
@@ -480,8 +479,7 @@ impl Pair {
     ///
     /// # Errors
     ///
-    /// [`AllocError`] from out of memory alone. Some of the pages may then be promised, and no others; nothing else
-    /// changes.
+    /// [`AllocError`] if memory runs out. Some of the pages may then be promised, and no others; nothing else changes.
     pub fn promise_index_words(&mut self, side: Side) -> Result<(), AllocError>
         requires { WindowsFit self.old.plan side }
         ensures grown { OnlyPagesGrow (TouchesIndexWord self.old.plan side) side self.old self.new }

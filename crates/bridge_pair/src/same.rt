@@ -32,7 +32,7 @@ pub fn have_same_writes_without(
     have_same_run(one, place + 1, other, place, other.len() - place)
 }
 
-// Whether so many writes are the same, from one place on in the one and from another in the other.
+// Whether this many writes are the same, from one place on in the one and from another in the other.
 fn have_same_run(
     one: &Queue<FlyingWrite>,
     from: usize,

@@ -29,7 +29,7 @@ left_by_take bits others p q =
     sym (and_assoc (4294967295 - others) bits bits) ∙ ap (λ x. bit_and x (4294967295 - others)) (and_self bits) in
     omega arith
 
--- A bit is in the difference of two sets of 32 bits exactly where it is in the first and not in the second.
+-- A bit is in the difference of two sets of 32 bits if and only if it is in the first and not in the second.
 pub has_bit-without_bits : (bits others : ℕ) → bits < 2 ^ 32 → others < 2 ^ 32 → (k : ℕ)
     → has_bit (without_bits bits others) k ≡ has_bit bits k && not (has_bit others k)
 has_bit-without_bits bits others p q k = elim (cases_lt k 32) [
@@ -50,11 +50,11 @@ and-not_and false b = refl
 and-not_and true false = refl
 and-not_and true true = refl
 
--- A take of the doorbell takes a bit exactly where it is pending and not masked.
+-- A take of the doorbell takes a bit if and only if it is pending and not masked.
 pub takes_unmasked : TakesUnmasked
 takes_unmasked bell fits k = has_bit-without_bits bell.pending bell.masked fits.0 fits.1 k
 
--- After a take of the doorbell a bit is still pending exactly where it was pending and is masked.
+-- After a take of the doorbell a bit is still pending if and only if it was pending and is masked.
 pub keeps_masked : KeepsMasked
 keeps_masked bell fits k =
     let taken = has_bit-without_bits bell.pending bell.masked fits.0 fits.1 k in

@@ -100,7 +100,7 @@ impl Bells {
         self.masked
     }
 
-    /// Takes the pending bits that aren't masked and answers them: they are pending no more, and masked ones stay
+    /// Takes the pending bits that aren't masked and returns them: they are pending no more, and masked ones stay
     /// pending.
     #[tactic(auto, using(crate::proofs::BitByBit::and_not_is, crate::proofs::BitByBit::left_by_take))]
     pub fn take(&mut self) -> u32

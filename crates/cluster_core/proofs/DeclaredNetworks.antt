@@ -71,7 +71,7 @@ stands_declared plan fabric stands = record { devs = stands.devs; all_pairs = st
 stands_by_declared : (plan : Plan) (fabric : FabricState) → StandsFor (declared_part plan) [] fabric → StandsFor plan [] fabric
 stands_by_declared plan fabric stands = record { devs = stands.devs; all_pairs = stands.all_pairs; pairs = stands.pairs }
 
--- A cluster with new switches whose fabric stands for no steps has made none of any plan that declares the same.
+-- A cluster with new switches whose fabric represents no steps has made none of any plan that declares the same.
 pub made_none : (plan other : Plan) (cluster : ClusterState) → IsDeclared plan → StandsFor plan [] cluster.fabric → cluster.plans ≡ plan.switches →
     cluster.switches ≡ map (λ plan. new_switch (length plan.ports)) plan.switches → declared_part other ≡ declared_part plan → HasMade other [] cluster
 made_none plan other cluster declared stands plans switches same =

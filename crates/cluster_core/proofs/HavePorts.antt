@@ -47,14 +47,14 @@ pub have_new : (plans : List SwitchPlan) → HavePorts plans (map (λ plan. new_
 have_new [] = tt
 have_new (plan ∷ plans) = (record { inboxes = length-replicate (length plan.ports) []; waiting = length-replicate (length plan.ports) [] }, have_new plans)
 
--- Where each switch has its declared ports, there are as many switches as plans of switches.
+-- If each switch has its declared ports, there are as many switches as plans of switches.
 pub have_length : (plans : List SwitchPlan) (switches : List Bytes) → HavePorts plans switches → length switches ≡ length plans
 have_length [] [] have = refl
 have_length [] (switch ∷ switches) have = absurd have
 have_length (plan ∷ plans) [] have = absurd have
 have_length (plan ∷ plans) (switch ∷ switches) have = ap suc (have_length plans switches have.1)
 
--- Where each switch has its declared ports, the switch at a declared number has the ports of the plan at that number.
+-- If each switch has its declared ports, the switch at a declared number has the ports of the plan at that number.
 pub have_at : (plans : List SwitchPlan) (switches : List Bytes) (k : ℕ) → HavePorts plans switches → k < length plans → HasPorts (get_or plans k no_switch) (get_or switches k (new_switch 0))
 have_at [] switches k have lt = absurd (omega arith)
 have_at (plan ∷ plans) [] k have lt = absurd have
@@ -70,7 +70,7 @@ have_with (plan ∷ plans) (switch ∷ switches) (suc k) new have lt own = (have
 
 -- Ports of the cluster
 
--- Where each switch has its declared ports, the switch of a declared port is within the list of switches.
+-- If each switch has its declared ports, the switch of a declared port is within the list of switches.
 pub switch_within : (plans : List SwitchPlan) (switches : List Bytes) (k port : ℕ) → HavePorts plans switches → IsPortAmong plans k port → k < length switches
 switch_within plans switches k port have among = omega (arith, have_length plans switches have, among.declared)
 
@@ -84,11 +84,11 @@ ports_found : (plans : List SwitchPlan) (switches : List Bytes) (k port : ℕ) (
 ports_found plans switches k port switch have among is =
     subst (HasPorts (get_or plans k no_switch)) (sym (switch_found plans switches k port switch have among is)) (have_at plans switches k have among.declared)
 
--- Where each switch has its declared ports, a declared port has an inbox in its switch.
+-- If each switch has its declared ports, a declared port has an inbox in its switch.
 pub inbox_within : (plans : List SwitchPlan) (switches : List Bytes) (k port : ℕ) (switch : Bytes) → HavePorts plans switches → IsPortAmong plans k port → switch ≡ get_or switches k switch → port < length switch.inboxes
 inbox_within plans switches k port switch have among is = let own = ports_found plans switches k port switch have among is in omega (arith, own.inboxes, among.among)
 
--- Where each switch has its declared ports, a declared port has a list of waiting frames in its switch.
+-- If each switch has its declared ports, a declared port has a list of waiting frames in its switch.
 pub waiting_within : (plans : List SwitchPlan) (switches : List Bytes) (k port : ℕ) (switch : Bytes) → HavePorts plans switches → IsPortAmong plans k port → switch ≡ get_or switches k switch → port < length switch.waiting
 waiting_within plans switches k port switch have among is = let own = ports_found plans switches k port switch have among is in omega (arith, own.waiting, among.among)
 

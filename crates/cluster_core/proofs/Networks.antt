@@ -1,4 +1,4 @@
--- The network and the log after one step more, and what a step of each kind comes to.
+-- The network and the log after one step more, and the result of a step of each kind.
 use Rattle.std.proofs.Common.{◌≡◌, ℕ, List, [], ◌∷◌, ◌++◌, refl, ap}
 use Rattle.step_kinds.specs.declared.plan.Plan.{Plan}
 use Rattle.step_kinds.specs.declared.steps.Answer.{Answer}

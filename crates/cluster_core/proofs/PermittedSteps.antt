@@ -50,7 +50,7 @@ lines_received line pair side queue copies =
     (map-append made (replicate copies (Copy pair side queue)) (Clear pair side queue ∷ Ack pair side queue ∷ [])
     ∙ sym (append_assoc copied (made (Clear pair side queue) ∷ []) (made (Ack pair side queue) ∷ [])))
 
--- Where the steps that receive a frame may all be made, so may the look, each copy, the clear and the ack.
+-- If the steps that receive a frame may all be made, so may the look, each copy, the clear and the ack.
 pub received_permitted : (kept : Plan) (line pair : ℕ) (side : Side) (queue copies : ℕ) → All (λ line. IsMakeable kept line.step) (lines_with line (receive pair side queue copies)) →
     IsMakeable kept (Look pair side queue) × All (λ line. IsMakeable kept line.step) (lines_with line (replicate copies (Copy pair side queue))) × IsMakeable kept (Clear pair side queue) × IsMakeable kept (Ack pair side queue)
 received_permitted kept line pair side queue copies all =

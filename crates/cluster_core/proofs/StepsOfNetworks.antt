@@ -532,7 +532,7 @@ sending_is kept cluster own place devs plans switch frame copy seen same_devs sa
 
 -- by the part that makes a step
 
--- Where an xnext on a side and a queue is makeable, the plan has a device on them.
+-- If an xnext on a side and a queue is makeable, the plan has a device on them.
 pub sending_device : (plan : Plan) (step : Step) (own : LaneName) → part_of step ≡ SendsNext own → IsMakeable plan step → HasDeviceOn plan own
 sending_device plan (Xnext pair side queue dev) own e (inl may) = absurd may
 sending_device plan (Xnext pair side queue dev) own e (inr may) =

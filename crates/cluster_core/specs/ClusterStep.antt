@@ -1,4 +1,4 @@
--- What a step of a cluster comes to: its contract, over the cluster before and after it.
+-- The contract of a step of a cluster, over the cluster before and after it.
 use Rattle.std.specs.Prelude.{◌≡◌, ◌≢◌, ℕ, false, true, List, [], ◌∷◌, ◌++◌, IfOk, IsErr, OnErr, OnOk, Result}
 use Rattle.step_kinds.specs.declared.names.Side.{Side}
 use Rattle.step_kinds.specs.declared.plan.Plan.{Plan}
@@ -27,7 +27,7 @@ pub record HasStepped {E : Type 0} (old new : ClusterState) (step : Step) (resul
   pub err : OnErr result (plain new ≡ plain old)
   -- of the steps that may want memory alone
   pub wants : IsErr result → may_want_memory old step ≡ true
-  -- and, but for an xnext, only where the log of those steps answers it with no refusal, or where a device has as many
+  -- and, but for an xnext, only if the log of those steps answers it with no refusal, or where a device has as many
   -- refusals as it can count
   pub border : (plan : Plan) (steps : List Step) → HasMade plan steps old → sends_waiting step ≡ false → OnErr result (IsWantedAfter plan steps old step)
   -- after a landing that lands nothing it has made the same steps too

@@ -41,13 +41,13 @@ pub record IsLaneOf (plan : Plan) (lane : LaneName) : Type 0 where
   pub sent : IsQueueOf plan lane.pair lane.from lane.queue
   pub received : IsQueueOf plan lane.pair (other_side lane.from) lane.queue
 
--- so many queues are of both sides of a pair
+-- this many queues are of both sides of a pair
 pub record HasQueues (plan : Plan) (pair queues : ℕ) : Type 0 where
   pub declared : IsPairOf plan pair
   pub side_a : queues ≤ (pair_plan plan pair).a.queues
   pub side_b : queues ≤ (pair_plan plan pair).b.queues
 
--- the lanes of a pair from a side, on so many queues
+-- the lanes of a pair from a side, on this many queues
 abbrev pub lanes_from : ℕ → Side → ℕ → List LaneName
 lanes_from pair from queues = map (λ queue. record { pair = pair; from = from; queue = queue }) (range_with_len 0 queues)
 

@@ -23,8 +23,8 @@ abbrev pub SameKeys : Type 0
 SameKeys = (plan : Plan) (common : List Step) (cluster other : ClusterState) →
     HasMade plan common cluster → HasMade plan common other → key_of cluster ≡ key_of other
 
--- Where a landing is answered `landed`, the key without that write is the key of each cluster that has made the same
--- steps and the landing after them.
+-- If a landing is answered `landed`, the key without that write is the key of each cluster that has made the same steps
+-- and the landing after them.
 abbrev pub KeyOnceLanded : Type 0
 KeyOnceLanded = (plan : Plan) (steps : List Step) (pair : ℕ) (side : Side) (place : ℕ) (label : Label) (cluster after : ClusterState) →
     HasMade plan steps cluster → answer_after plan (memory_of plan) steps (Land pair side place) ≡ Landed label → HasMade plan (steps ++ Land pair side place ∷ []) after →

@@ -21,7 +21,7 @@ log_after plan steps = switch_log plan (memory_of plan) steps
 abbrev pub network_after : Plan → List Step → Network (List ℕ)
 network_after plan steps = network_of plan (memory_of plan) steps
 
--- The cluster is this network of the plan: its fabric stands for the steps that were made on bridges, and its switches
+-- The cluster is this network of the plan: its fabric represents the steps that were made on bridges, and its switches
 -- are these.
 pub record IsNetwork (plan : Plan) (net : Network (List ℕ)) (cluster : ClusterState) : Type 0 where
   pub bridges : HasMadeOnBridges plan net.steps cluster.fabric

@@ -31,7 +31,7 @@ port_seen own = record { switch = own.switch; place = own.port }
 abbrev pub is_device_on : List DevPlan → LaneName → ℕ → Bool
 is_device_on devs own dev = is_on own (dev_plan devs dev).pair (dev_plan devs dev).side (dev_plan devs dev).queue
 
--- a switch's few ports are devices, of which there are so many
+-- a switch's few ports are devices, of which there are this many
 pub record HasFewPorts (count : ℕ) (plan : SwitchPlan) : Type 0 where
   pub few : length plan.ports ≤ most_ports
   pub declared : All (λ dev. dev < count) plan.ports

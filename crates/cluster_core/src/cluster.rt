@@ -49,7 +49,7 @@ impl Cluster {
     ///
     /// # Errors
     ///
-    /// [`AllocError`] from out of memory alone.
+    /// [`AllocError`] if memory runs out.
     pub fn new(alloc: Global, plan: &Plan) -> Result<Cluster, AllocError>
         requires declared { IsDeclared plan.now }
         requires switches { AreSwitches plan.now }
@@ -64,10 +64,10 @@ impl Cluster {
         })
     }
 
-    /// Makes a step, which has to be one that a script of the cluster's plan may make, and answers it. Whatever steps
-    /// the cluster has made, the answer is that of the log of those steps and this one, and then it has made them and
-    /// this one. After a landing that lands nothing it has made also the steps without it. The cluster's plan stays,
-    /// whatever comes of the step.
+    /// Makes a step, which has to be one that a script of the cluster's plan may make, and returns its answer. Whatever
+    /// steps the cluster has made, the answer is that of the log of those steps and this one, and then it has made them
+    /// and this one. After a landing that lands nothing it has made also the steps without it. The cluster's plan
+    /// stays, whatever comes of the step.
     ///
     /// - A `relay` is answered by the switch: `nothing`, `short`, `filtered`, `to` or `flood`.
     /// - An `xnext` is answered `nothing` where no frame waits at the device's port. Else it is a `begin` with the
@@ -244,8 +244,8 @@ impl Cluster {
     /// Whether no step can tell two clusters apart, which have to be of the same pairs, devices and switches. Left out
     /// are promised room and pages, and what a queue keeps of an entry that it has posted whole.
     ///
-    /// Where the answer is `true`, whatever steps the one has made, the other has made too. Where both have made one
-    /// list of steps, it is `true`. It takes no memory.
+    /// If the answer is `true`, whatever steps the one has made, the other has made too. If both have made one list of
+    /// steps, it is `true`. It takes no memory.
     pub fn is_same(&self, other: &Cluster) -> bool
         requires { plan_held self.now ≡ plan_held other.now }
         ensures merges { result ≡ true → (plan : PlanValue) (steps : List MadeStep) → HasMade plan steps self.now → HasMade plan steps other.now }
@@ -258,9 +258,9 @@ impl Cluster {
     /// cluster apart from another. [`Cluster::is_same`] says what no step can tell apart. The pair has to be one of the
     /// cluster's, and both clusters have to be of the same pairs, devices and switches.
     ///
-    /// Where the answer is `true`, the other has made whatever steps this one has made and the landing after them.
-    /// Where it has made such a list, and the landing is answered `landed`, the answer is `true`. It is found out
-    /// without landing the write, and takes no memory.
+    /// If the answer is `true`, the other has made whatever steps this one has made and the landing after them. If it
+    /// has made such a list, and the landing is answered `landed`, the answer is `true`. It is found out without
+    /// landing the write, and takes no memory.
     pub fn lands_as(&self, pair: u32, side: Side, place: usize, other: &Cluster) -> bool
         requires plans { plan_held self.now ≡ plan_held other.now }
         requires pair { IsPairOf (plan_held self.now) pair }
@@ -275,7 +275,7 @@ impl Cluster {
     ///
     /// # Errors
     ///
-    /// [`AllocError`] from out of memory alone.
+    /// [`AllocError`] if memory runs out.
     pub fn copy_of(&self, alloc: Global) -> Result<Cluster, AllocError>
         ensures { IfOk result (λ copy. copy ≡ self.now) }
     {
@@ -302,7 +302,7 @@ impl Cluster {
     ///
     /// # Errors
     ///
-    /// [`AllocError`] from out of memory alone. A part of the key may then be there.
+    /// [`AllocError`] if memory runs out. A part of the key may then be there.
     pub fn push_key(&self, key: &mut Vec<u8>) -> Result<(), AllocError>
         ensures { OnOk result (key.new.items ≡ key.old.items ++ key_of self.now) }
     {
@@ -314,7 +314,7 @@ impl Cluster {
     ///
     /// # Errors
     ///
-    /// [`AllocError`] from out of memory alone. A part of the key may then be there.
+    /// [`AllocError`] if memory runs out. A part of the key may then be there.
     pub fn push_key_without(
         &self,
         pair: u32,

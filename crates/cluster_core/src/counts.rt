@@ -33,7 +33,7 @@ pub fn lane_counts(
     Ok(counts)
 }
 
-// Adds the counts of the lanes of a pair from a side, on so many queues.
+// Adds the counts of the lanes of a pair from a side, on this many queues.
 fn push_lanes(
     counts: &mut Vec<LaneCount>,
     cluster: &Cluster,

@@ -13,8 +13,8 @@ pub fn same_keys()
     ensures { SameKeys }
 {}
 
-/// Where a landing is answered `landed`, the key without that write is the key after it. It is that of each cluster
-/// that has made the same steps and the landing after them. No premise.
+/// If a landing is answered `landed`, the key without that write is the key after it. It is that of each cluster that
+/// has made the same steps and the landing after them. No premise.
 pub fn key_once_landed()
     ensures { KeyOnceLanded }
 {}

@@ -19,7 +19,7 @@ pub struct PortPlace {
 }
 
 /// The port whose device is on a side and a queue of a pair, which are named as the lane on which the side sends there.
-/// Of several it is the first, by switches and then by ports, and `None` comes exactly where there is none.
+/// Of several it is the first, by switches and then by ports, and `None` is returned if and only if there is none.
 ///
 /// There are at most as many switches, and ports of each, as a script can declare, and each port is one of the devices.
 pub fn port_on(devs: &[DevPlan], plans: &[SwitchPlan], own: LaneName) -> Option<PortPlace>

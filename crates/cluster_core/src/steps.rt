@@ -27,7 +27,7 @@ pub trait KeepsAnswers {
     fn keep(&mut self, step: &Step, made: &LineAnswer) -> Result<(), AllocError>
         ensures { OnOk result (self.new ≡ with_answer self.old (record { step = step.now; made = made.now })) };
 
-    /// Keeps the same answer to a step that is refused so many times. It may be out of memory.
+    /// Keeps the same answer to a step that is refused this many times. It may be out of memory.
     fn keep_times(&mut self, step: &Step, made: &LineAnswer, count: u32) -> Result<(), AllocError>
         requires { is_made made.now.answer ≡ false }
         ensures { OnOk result (self.new ≡ fold with_answer self.old (replicate count (record { step = step.now; made = made.now }))) };
@@ -77,7 +77,7 @@ fn make_stretch<K: KeepsAnswers>(
     }
 }
 
-// Makes a step of few numbers of a line so many times. Posts and landings, which are the most, are made by code of
+// Makes a step of few numbers of a line this many times. Posts and landings, which are the most, are made by code of
 // their own.
 fn make_repeated<K: KeepsAnswers>(
     line: u32,
@@ -113,7 +113,7 @@ fn make_repeated<K: KeepsAnswers>(
     }
 }
 
-// Makes the steps of a line by which a side receives an entry in so many copies.
+// Makes the steps of a line by which a side receives an entry in this many copies.
 fn make_received<K: KeepsAnswers>(
     line: u32,
     pair: u32,
@@ -139,9 +139,9 @@ fn make_received<K: KeepsAnswers>(
     make_step(line, &Step::Ack { pair, side, queue }, cluster, kept)
 }
 
-// Makes a step of few numbers of a line so many times. Once it is refused it is refused again each further time, so it
-// isn't made any more. The step is put together anew each time, so that where its kind is known the others' code falls
-// away.
+// Makes a step of few numbers of a line this many times. Once it is refused it is refused again each further time, so
+// it isn't made any more. The step is put together anew each time, so that where its kind is known the others' code
+// falls away.
 #[inline(always)]
 fn make_again<K: KeepsAnswers>(
     line: u32,

@@ -14,7 +14,7 @@ fn one_byte(alloc: Global) -> Result<Frame, AllocError>
     Ok(Frame::of_vec(vec![in alloc; b'a']?))
 }
 
-// Posts so many writes, and lands them in order.
+// Posts this many writes, and lands them in order.
 fn post_and_land(lane: &mut Lane, writes: u32) {
     for _ in 0..writes {
         lane.post();

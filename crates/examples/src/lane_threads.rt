@@ -16,7 +16,7 @@ const ENTRIES: u32 = 8;
 /// Each of these bytes is a frame.
 const FRAMES: [u8; 5] = *b"lanes";
 
-/// So many turns an end makes at most, so that each thread ends.
+/// This many turns an end makes at most, so that each thread ends.
 const TRIES: u32 = 4_096;
 
 /// What came of the frames.

@@ -174,7 +174,7 @@ fn comes_back(alloc: Global, end: &mut SendEnd) -> Result<bool, AllocError>
     })
 }
 
-/// So many turns an end in a thread makes at most.
+/// This many turns an end in a thread makes at most.
 const END_TURNS: u32 = 1_000_000;
 
 /// The entry of the last frame that it moves or receives.

@@ -123,8 +123,8 @@ impl Gate for Sums {
 }
 
 /// Whether of two frames one goes round a ring of two entries, before the link is cut and the other one stays. Turns 0
-/// and 1 of worker 0, 0 to 2 of worker 1, 0 and 1 of worker 2, and 5 of worker 3 pass the gate. The only error is
-/// running out of memory.
+/// and 1 of worker 0, 0 to 2 of worker 1, 0 and 1 of worker 2, and 5 of worker 3 pass the gate. Returns an error if
+/// memory runs out.
 pub fn one_of_two_frames_goes_round(alloc: Global) -> Result<bool, AllocError> {
     let mut lane = new_lane(alloc)?;
     Ok(goes_round(&mut lane) && lane.got.len() == 1 && stays_after_the_cut(&mut lane))

@@ -12,8 +12,8 @@ use traffic_plan::load_without_steps;
 const REPORT: &[u8] = b"6 ok\nlane p A 0 1 accepted 1 delivered 0\nend\n";
 
 /// Whether the report of one answer, of one lane and of no device has its three lines. They are the answer with the
-/// number of its script line, the lane in session 1 with what it accepted and delivered, and `end`. The only error is
-/// running out of memory.
+/// number of its script line, the lane in session 1 with what it accepted and delivered, and `end`. Returns an error if
+/// memory runs out.
 pub fn report_has_its_lines(alloc: Global) -> Result<bool, AllocError> {
     let plan = load_without_steps(alloc)?;
     has_its_lines(alloc, &plan)

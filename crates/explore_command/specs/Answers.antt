@@ -17,7 +17,7 @@ use Rattle.step_kinds.specs.declared.steps.Step.{Step}
 abbrev pub has_made : ClusterState → Plan → List Step → Type 0
 has_made cluster plan steps = HasMade plan steps cluster
 
--- The text is that of all outcomes of the plan's schedules, which reach so many states.
+-- The text is that of all outcomes of the plan's schedules, which reach this many states.
 pub record TellsAll (plan : Plan) (output : Output) : Type 0 where
   pub found : List Outcome
   pub states : ℕ

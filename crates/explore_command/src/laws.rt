@@ -13,7 +13,7 @@ pub fn one_status()
         → one.status ≡ other.status }
 {}
 
-/// The status of an answer is 8 exactly where the bytes are a script whose schedules reach more than 1,000,000 states.
+/// The status of an answer is 8 if and only if the bytes are a script whose schedules reach more than 1,000,000 states.
 /// No premise.
 pub fn too_many_is_exact()
     ensures { (bytes : List ℕ) (output : Output) → IsExploreOf bytes output

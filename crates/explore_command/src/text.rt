@@ -32,7 +32,7 @@ use std::alloc::{AllocError, Global};
 use step_kinds::{Line, Plan, Side};
 
 /// The text of the outcomes of a plan's schedules, and of how many states they reach. Each further landing of an
-/// outcome has to be of a pair of the plan. The only error is out of memory.
+/// outcome has to be of a pair of the plan. Returns an error if memory runs out.
 pub fn explored_text(
     alloc: Global,
     plan: &Plan,
@@ -51,7 +51,7 @@ pub fn explored_text(
     Ok(text)
 }
 
-// Whether all outcomes have the same answer, for each of so many steps.
+// Whether all outcomes have the same answer, for each of this many steps.
 fn agreed_steps(alloc: Global, outcomes: &[Outcome], count: usize) -> Result<Vec<bool>, AllocError>
     ensures { IfOk result (λ agreed. agreed.items ≡ map (agree_by_answers outcomes.now) (range_with_len 0 count)) }
 {

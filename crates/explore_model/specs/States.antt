@@ -37,14 +37,14 @@ module _ {Machine : Type 0} (has_made : Machine → Plan → List Step → Type 
   abbrev pub AreApart : (plan : Plan) (script : List Step) → List (Passing plan script) → Type 0
   AreApart plan script states = AllPairs (λ one other. LeadToOne plan script one other → ⊥) states
 
-  -- the script's schedules reach so many states
+  -- the script's schedules reach this many states
   pub record IsCensus (plan : Plan) (script : List Step) (count : ℕ) : Type 0 where
     pub states : List (Passing plan script)
     pub counted : length states ≡ count
     pub apart : AreApart plan script states
     pub all : (run : Passing plan script) → Any (λ state. LeadToOne plan script state run) states
 
-  -- they reach more than so many
+  -- they reach more than this many
   pub record HasMoreThan (plan : Plan) (script : List Step) (limit : ℕ) : Type 0 where
     pub states : List (Passing plan script)
     pub counted : limit < length states

@@ -75,7 +75,7 @@ outcome_lines plan outcomes k =
     line_of (codes "outcome" ++ numbers_text ((k + 1) ∷ [])) ++ flat_map (landing_line plan) outcome.landings
     ++ flat_map (differing_line plan outcomes outcome) (step_numbers plan)
 
--- the text of the outcomes of a plan, in whose exploration so many states were reached
+-- the text of the outcomes of a plan, in whose exploration this many states were reached
 abbrev pub explored_text : Plan → List Outcome → ℕ → List ℕ
 explored_text plan outcomes states =
     head_line outcomes states ++ flat_map (outcome_lines plan outcomes) (range_with_len 0 (length outcomes))

@@ -1,4 +1,4 @@
--- What the closing of a layer comes to, for the outcomes, for the count of states, and for the next layer.
+-- What the closing of a layer does to the outcomes, for the count of states, and for the next layer.
 use Rattle.std.proofs.Common.{◌≡◌, ◌∙◌, ℕ, ◌+◌, ◌<◌, ◌≤◌, List, Option, Some, arith, length, map, subst, sym, take}
 use Rattle.std.proofs.lemmas.List.{length-map}
 use Rattle.step_kinds.specs.declared.plan.Line.{Line}

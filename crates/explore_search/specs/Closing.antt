@@ -16,7 +16,7 @@ module _ {M : Type 0} (has_made : M → Plan → List Step → Type 0) (plan_hel
     pub named : new.answers ≡ old.answers
     pub grown : HaveGrown has_made plan_held key_of plan done old.states new.states
 
-  -- and then it is closed, and has so many states, or it has no room for them
+  -- and then it is closed, and has this many states, or it has no room for them
   abbrev pub GroupClosed : Group M → ℕ → Option ℕ → Type 0
   GroupClosed group room found =
       MatchOption found (room < length group.states)
@@ -28,7 +28,7 @@ module _ {M : Type 0} (has_made : M → Plan → List Step → Type 0) (plan_hel
     pub grown : (k : ℕ) (d : Group M) → k < length old → GroupGrown (slice_index_or old k d) (slice_index_or new k d)
     pub closed : (k : ℕ) (d : Group M) → k < count → AreClosed has_made plan done (slice_index_or new k d).states
 
-  -- the layer is closed, and has so many states with those that were counted before; or there are more than the limit
+  -- the layer is closed, and has this many states with those that were counted before; or there are more than the limit
   abbrev pub LayerClosed : ℕ → ℕ → List (Group M) → List (Group M) → Option ℕ → Type 0
   LayerClosed before limit old new found =
       MatchOption found ((n : ℕ) × (n < length new) × ClosedUpTo n old new × (limit < before + states_in (take (n + 1) new)))

@@ -20,7 +20,7 @@ pub record IsExplorable (plan : Plan) : Type 0 where
   pub switches : AreSwitches plan
   pub steps : All (λ line. IsMakeable plan line.step) plan.steps
 
--- a further landing, before which no more than so many steps of the plan were made
+-- a further landing, before which no more than this many steps of the plan were made
 pub record IsLandingBy (plan : Plan) (done : ℕ) (landing : Landing) : Type 0 where
   pub may : IsLanding plan landing
   pub at : landing.at ≤ done
@@ -42,6 +42,6 @@ landed_then script before landing = record { at = landing.at; made = (before.mad
 abbrev pub walked : List Step → List Landing → Walked
 walked script landings = fold (landed_then script) (record { at = 0; made = [] }) landings
 
--- all that was made when so many steps of the script were
+-- all that was made when this many steps of the script were
 unfoldable pub path : List Step → List Landing → ℕ → List Step
 path script landings done = (walked script landings).made ++ between script (walked script landings).at done

@@ -12,7 +12,7 @@ use Rattle.explore_model.specs.declared.outcome.Landing.{Landing}
 use Rattle.explore_search.specs.States.{Covers, Reaches}
 use Rattle.explore_search.specs.declared.states.State.{State}
 
--- a landing that is made after so many steps
+-- a landing that is made after this many steps
 pub record IsNext (plan : Plan) (done : ℕ) (landing : Landing) : Type 0 where
   pub may : IsLanding plan landing
   pub at : landing.at ≡ done

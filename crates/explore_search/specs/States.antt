@@ -42,7 +42,8 @@ module _ {M : Type 0} (has_made : M → Plan → List Step → Type 0) (plan_hel
   IsSpareOf plan done spare state = IfSome spare (IsMachineAt plan (made_to plan done state))
 
 module _ {M : Type 0} (has_made : M → Plan → List Step → Type 0) (plan_held : M → Plan) (key_of : M → List ℕ) where
-  -- a state after so many steps of the plan: its key is that of each machine there, and so is the machine that it keeps
+  -- a state after this many steps of the plan: its key is that of each machine there, and so is the machine that it
+  -- keeps
   pub record IsState (plan : Plan) (done : ℕ) (state : State M) : Type 0 where
     pub landings : All (IsLandingBy plan done) state.landings.items
     pub key : (machine : M) → has_made machine plan (made_to plan done state) → key_of machine ≡ state.key.items

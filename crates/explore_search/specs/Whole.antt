@@ -19,7 +19,7 @@ pub data IsBase (plan : Plan) : (script : List Step) (made : List Step) (answers
       IsBase plan (script ++ step ∷ []) (made ++ step ∷ []) (answers ++ text_after plan made step ∷ [])
 
 module _ {M : Type 0} (has_made : M → Plan → List Step → Type 0) (plan_held : M → Plan) (key_of : M → List ℕ) (plan : Plan) (done : ℕ) where
-  -- a layer has all runs of so many steps but for those that end with further landings
+  -- a layer has all runs of this many steps but for those that end with further landings
   pub record IsBased (layer : List (Group M)) : Type 0 where
     pub kept : All (λ group. AreKept has_made plan_held key_of plan done group.states) layer
     pub ordered : IsLayer has_made plan_held key_of plan done layer
@@ -33,7 +33,7 @@ module _ {M : Type 0} (has_made : M → Plan → List Step → Type 0) (plan_hel
     pub full : (landings : List Landing) (made : List Step) (answers : List (List ℕ)) → Runs plan (take done (script_of plan)) landings made answers →
         LayerCovers has_made plan_held key_of plan done layer answers made
 
-  -- so many states are reached by runs of fewer steps
+  -- this many states are reached by runs of fewer steps
   pub record IsCount (count : ℕ) : Type 0 where
     pub seen : List (Passing plan (script_of plan))
     pub counted : length seen ≡ count

@@ -14,7 +14,7 @@ use std::alloc::{AllocError, Global};
 use step_kinds::Plan;
 
 /// Closes the states of each group of a layer under landings. It answers how many states there are then, together with
-/// those that were counted before, or `None` where there are more than the limit. The only error is out of memory.
+/// those that were counted before, or `None` where there are more than the limit. Returns an error if memory runs out.
 pub fn close_layer<M: Machine>(
     alloc: Global,
     plan: &Plan,
@@ -61,7 +61,7 @@ fn close_groups<M: Machine>(
     Ok(Some(count))
 }
 
-// Closes the states of a group under landings, and answers how many there are then, or `None` where there is no room.
+// Closes the states of a group under landings, and returns how many there are then, or `None` where there is no room.
 fn close_group<M: Machine>(
     alloc: Global,
     plan: &Plan,
@@ -82,7 +82,7 @@ fn close_group<M: Machine>(
     Ok(Some(group.states.len()))
 }
 
-/// Makes the next step of the script on each state of a layer. The only error is out of memory.
+/// Makes the next step of the script on each state of a layer. Returns an error if memory runs out.
 pub fn step_layer<M: Machine>(
     alloc: Global,
     plan: &Plan,

@@ -14,9 +14,9 @@ use explore_model::Landing;
 use std::alloc::{AllocError, Global};
 use step_kinds::Plan;
 
-/// Whether a landing after one of the states, which are all after so many steps of the plan, leads to one of them. It
-/// is found out without making the landing, and only by machines that states keep. Where the answer is `false`, the
-/// landing may lead to one of them all the same. The only error is out of memory.
+/// Whether a landing after one of the states, which are all after this many steps of the plan, leads to one of them. It
+/// is found out without making the landing, and only by machines that states keep. If the answer is `false`, the
+/// landing may lead to one of them all the same. Returns an error if memory runs out.
 pub fn leads_back<M: Machine>(
     alloc: Global,
     plan: &Plan,

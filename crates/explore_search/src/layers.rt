@@ -33,8 +33,8 @@ pub struct Branch<M> {
     pub states: States<M>,
 }
 
-/// Makes the next step of the script on each state of a group. The branches stand in the order of their texts. The only
-/// error is out of memory.
+/// Makes the next step of the script on each state of a group. The branches stand in the order of their texts. Returns
+/// an error if memory runs out.
 pub fn branches_of<M: Machine>(
     alloc: Global,
     plan: &Plan,
@@ -156,7 +156,7 @@ fn place_of<M: Machine>(branches: &[Branch<M>], text: &[u8]) -> Result<usize, us
     Err(branches.len())
 }
 
-/// Groups of branches, after these answers. The only error is out of memory.
+/// Groups of branches, after these answers. Returns an error if memory runs out.
 pub fn named<M: Machine>(
     alloc: Global,
     answers: Items<Items<u8>>,
@@ -206,7 +206,7 @@ fn push_group<M: Machine>(
     Ok(())
 }
 
-/// A copy of texts. The only error is out of memory.
+/// A copy of texts. Returns an error if memory runs out.
 fn copy_of(alloc: Global, texts: &[Items<u8>]) -> Result<Items<Items<u8>>, AllocError>
     ensures { IfOk result (λ copy. copy ≡ texts.now) }
 {

@@ -32,21 +32,21 @@ pub trait Machine: Drop {
     // those bytes without the write of a landing
     ghost key_without: { Self → LandingValue → List ℕ };
 
-    /// A machine that has made no step of the plan, which is one that a script can declare. The only error is out of
-    /// memory.
+    /// A machine that has made no step of the plan, which is one that a script can declare. Returns an error if memory
+    /// runs out.
     fn fresh(alloc: Global, plan: &Plan) -> Result<Self, AllocError>
         requires declared { IsDeclared plan.now }
         requires switches { AreSwitches plan.now }
         ensures made { IfOk result (λ machine. has_made machine plan.now []) }
         ensures plan { IfOk result (λ machine. plan_held machine ≡ declared_part plan.now) };
 
-    /// A machine in the same state. The only error is out of memory.
+    /// A machine in the same state. Returns an error if memory runs out.
     fn copy_of(&self, alloc: Global) -> Result<Self, AllocError>
         ensures { IfOk result (λ copy. copy ≡ self.now) };
 
-    /// Makes a step, which has to be one that a script of the machine's plan may make, and answers it. After a landing
-    /// that isn't answered `landed` it has also made the steps without it. The only error is out of memory, and then
-    /// nothing is promised of the steps that it has made.
+    /// Makes a step, which has to be one that a script of the machine's plan may make, and returns its answer. After a
+    /// landing that isn't answered `landed` it has also made the steps without it. Returns an error if memory runs out,
+    /// and then nothing is promised of the steps that it has made.
     fn step(&mut self, step: &Step) -> Result<Answer, AllocError>
         requires { IsMakeable (plan_held self.old) step.now }
         ensures answer { (plan : PlanValue) (steps : List StepValue) → has_made self.old plan steps →
@@ -79,12 +79,12 @@ pub trait Machine: Drop {
             answer_after plan (memory_of plan) steps (Land pair side place) ≡ Nothing };
 
     /// Adds a few bytes of the machine's state, by which a search looks among few. Machines that have made one list of
-    /// steps have the same. The only error is out of memory.
+    /// steps have the same. Returns an error if memory runs out.
     fn push_key(&self, key: &mut Vec<u8>) -> Result<(), AllocError>
         ensures { OnOk result (key.new.items ≡ key.old.items ++ key_of self.now) };
 
     /// Adds the key without the write of a landing, by which a search looks for the state in which the landing leaves
-    /// the machine. The landing's pair has to be one of the plan's. The only error is out of memory.
+    /// the machine. The landing's pair has to be one of the plan's. Returns an error if memory runs out.
     fn push_key_without(&self, landing: Landing, key: &mut Vec<u8>) -> Result<(), AllocError>
         requires { IsPairOf (plan_held self.now) landing.pair }
         ensures { OnOk result (key.new.items ≡ key.old.items ++ key_without self.now landing) };

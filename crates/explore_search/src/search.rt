@@ -18,7 +18,7 @@ use step_kinds::{Items, Plan};
 /// The most states of a search that ends with outcomes.
 pub const MOST_STATES: usize = 1_000_000;
 
-/// What a search comes to.
+/// The result of a search.
 #[derive(Drop)]
 pub enum Explored {
     /// All outcomes of the script's schedules, and how many states the schedules come to before a step.
@@ -32,12 +32,12 @@ pub enum Explored {
     TooMany,
 }
 
-/// Every outcome that the schedules of a plan's script have, by machines of the plan. Where the schedules come to more
+/// Every outcome that the schedules of a plan's script have, by machines of the plan. If the schedules come to more
 /// than a million states before a step, it is [`Explored::TooMany`] instead. The plan is one that a script can declare.
 ///
 /// # Errors
 ///
-/// [`AllocError`] from out of memory alone.
+/// [`AllocError`] if memory runs out.
 pub fn explore<M: Machine>(alloc: Global, plan: &Plan) -> Result<Explored, AllocError>
     requires { IsExplorable plan.now }
     ensures { IfOk result (IsExploration M.has_made plan.now) }

@@ -19,8 +19,8 @@ use step_kinds::{Answer, Plan, Side};
 // How many places of writes a landing can name.
 const PLACES: usize = 4_294_967_296;
 
-/// Adds to states, all after so many steps of the plan, those to which landings lead from them, until there are more
-/// than there is room for. It answers whether there was room. The only error is out of memory.
+/// Adds to states, all after this many steps of the plan, those to which landings lead from them, until there are more
+/// than there is room for. It answers whether there was room. Returns an error if memory runs out.
 pub fn close<M: Machine>(
     alloc: Global,
     plan: &Plan,

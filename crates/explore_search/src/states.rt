@@ -16,7 +16,7 @@ use std::alloc::{AllocError, Global};
 use std::marker::Model;
 use step_kinds::Plan;
 
-// So many bytes most keys don't exceed: a longer one grows.
+// This many bytes most keys don't exceed: a longer one grows.
 pub const KEY_ROOM: usize = 128;
 
 /// A state of a search: the landings of a path to it, the key of its machine, and maybe the machine.
@@ -85,7 +85,7 @@ impl<M: Machine> States<M> {
     ///
     /// # Errors
     ///
-    /// [`AllocError`] from out of memory alone, and then the states stay.
+    /// [`AllocError`] if memory runs out, and then the states stay.
     pub fn push(
         &mut self,
         alloc: Global,
@@ -121,8 +121,9 @@ impl<M> Model for States<M> {
     ghost invariant = { λ states. AreIndexed states.last (λ key. key.items) states.list.items };
 }
 
-/// Adds the state of a machine, which has made so many steps of the plan and these landings between them, unless it is
-/// among the states. Where fewer than `live` states are there it keeps its machine. The only error is out of memory.
+/// Adds the state of a machine, which has made this many steps of the plan and these landings between them, unless it
+/// is among the states. Where fewer than `live` states are there it keeps its machine. Returns an error if memory runs
+/// out.
 pub fn join<M: Machine>(
     alloc: Global,
     plan: &Plan,

@@ -63,7 +63,7 @@ still_there xs ys i d within items =
     let none : i + 0 ≡ i = omega arith in
     ap (λ zs. get_or zs i d) items ∙ ap (λ n. get_or (first ++ drop i xs) n d) at ∙ get_or-append-add first (drop i xs) 0 d ∙ get_or-drop i xs 0 d ∙ ap (λ n. get_or xs n d) none
 
--- Where the queues before place i have forgotten their session, the one at i is still as it was at first.
+-- If the queues before place i have forgotten their session, the one at i is still as it was at first.
 pub its_turn : (xs ys : List QueuePart) (i : ℕ) (part : QueuePart) → i < length xs → ys ≡ map forgotten_queue (take i xs) ++ drop i xs → part ≡ get_or ys i part → get_or xs i no_queue ≡ part
 its_turn xs ys i part within items is = get_or_default xs i no_queue part within ∙ sym (is ∙ still_there xs ys i part within items)
 
@@ -88,7 +88,7 @@ first_fits sum first others spare is fits = omega (arith, is, fits)
 others_fit : (sum first others spare spare_after : ℕ) → sum ≡ first + others → spare ≡ sum → spare_after ≡ spare - first → spare_after ≡ others
 others_fit sum first others spare spare_after is fits after = omega (arith, is, fits, after)
 
--- Where a side's room is what its queues from place i on haven't used, it covers what the one at i hasn't.
+-- If a side's room is what its queues from place i on haven't used, it covers what the one at i hasn't.
 pub room_then : (mid : Bridge) (side : Side) (xs : List QueuePart) (i : ℕ) (part : QueuePart) → i < length xs → get_or xs i no_queue ≡ part → part.queue.port.side ≡ side
     → (flight_of mid side).spare ≡ all_unused (drop i xs) → unused_of part.queue.port ≤ (flight_of mid part.queue.port.side).spare
 room_then mid side xs i part within is same room =

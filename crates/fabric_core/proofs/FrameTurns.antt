@@ -47,7 +47,7 @@ was_begun : BeginAnswer → Bool
 was_begun (QueueBegun number) = true
 was_begun answer = false
 
--- Where a begin is answered as one that was begun, the queue begins it.
+-- If a begin is answered as one that was begun, the queue begins it.
 pub begins_where : (answer : BeginAnswer) → IsBegun (of_begin answer) → (number : ℕ) × (answer ≡ QueueBegun number)
 begins_where (QueueBegun number) is = (number, refl)
 begins_where LinkDown is = absurd (cc is)

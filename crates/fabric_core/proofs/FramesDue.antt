@@ -37,7 +37,7 @@ pub due_is : (fabric : FabricState) (own : LaneName) →
 unfolding frame_due rule_answer
 due_is fabric own = answer_delivers (copy_answer (queue_of (pair_of fabric own.pair) own.from own.queue).queue.port (pair_of fabric own.pair).bridge)
 
--- Where a frame is due, the log of whatever steps a fabric has made doesn't refuse the copy.
+-- If a frame is due, the log of whatever steps a fabric has made doesn't refuse the copy.
 pub due_wanted : (fabric : FabricState) (own : LaneName) → IsQueueOf (plan_kept fabric) own.pair own.from own.queue → IsSome (frame_due fabric own) →
     (plan : Plan) (steps : List Step) → HasMade plan steps fabric → IsWantedAfter plan steps fabric (Copy own.pair own.from own.queue)
 unfolding frame_due

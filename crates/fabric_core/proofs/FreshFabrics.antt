@@ -1,4 +1,4 @@
--- A fabric of fresh pairs stands for no steps.
+-- A fabric of fresh pairs represents no steps.
 use Rattle.std.proofs.Common.{◌≡◌, ℕ, ◌+◌, ◌<◌, ◌≢◌, ◌⊎◌, List, [], ◌∷◌, ◌++◌, get_or, inl, inr, length, refl, sym, subst, arith}
 use Rattle.std.proofs.lemmas.Bool.{cases_eq}
 use Rattle.std.proofs.lemmas.List.{get_or_append_left, get_or_push, length_push}
@@ -21,7 +21,7 @@ use Rattle.fabric_core.proofs.StepsOfFabrics.{MadeSome, declared_bare, plan_of_s
 abbrev pub IsFresh : List DevPlan → PairPlan → ℕ → PairState → Type 0
 IsFresh devs plan k pair = IsFreshPair devs plan k (record { a = pages_of pair.bridge A; b = pages_of pair.bridge B }) pair
 
--- the first pairs of a plan, so many of them
+-- the first pairs of a plan, this many of them
 pub record AreFresh (plan : Plan) (devs : List DevPlan) (pairs : List PairState) (count : ℕ) : Type 0 where
   pub all_pairs : length pairs ≡ count
   pub fresh : (k : ℕ) → k < count → IsFresh devs (pair_plan plan k) k (get_or pairs k no_state)

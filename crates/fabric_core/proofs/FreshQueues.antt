@@ -58,14 +58,14 @@ fresh_all devs plan k side parts queue all made =
 abbrev pub NoneOn : List DevPlan → ℕ → Side → ℕ → ℕ → Type 0
 NoneOn devs k side queue before = (d : ℕ) → d < before → IsOn (dev_plan devs d) k side queue → ⊥
 
--- Where no queue of a pair has two devices, the stop and start of a device are the limits on its queue.
+-- If no queue of a pair has two devices, the stop and start of a device are the limits on its queue.
 pub limits_of : (devs : List DevPlan) (k : ℕ) (side : Side) (queue i : ℕ) → AreAlone devs k → i < length devs → IsOn (dev_plan devs i) k side queue
     → AreLimitsOn devs k side queue (dev_plan devs i).stop (dev_plan devs i).start
 limits_of devs k side queue i alone within on = λ d below other.
     let same : i ≡ d = alone i d within below on.its_pair (on.its_pair ∙ sym other.its_pair, on.its_side ∙ sym other.its_side, on.its_queue ∙ sym other.its_queue) in
     (ap (λ n. (dev_plan devs n).stop) same, ap (λ n. (dev_plan devs n).start) same)
 
--- Where none of the devices is on a queue, any stop and start may stand as the limits on it.
+-- If none of the devices is on a queue, any stop and start may stand as the limits on it.
 pub limits_none : (devs : List DevPlan) (k : ℕ) (side : Side) (queue n stop start : ℕ) → length devs ≤ n → NoneOn devs k side queue n → AreLimitsOn devs k side queue stop start
 limits_none devs k side queue n stop start all none = λ d below on. absurd (none d (omega (arith, all, below)) on)
 

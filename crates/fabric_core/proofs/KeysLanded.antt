@@ -82,7 +82,7 @@ last_of : (P : Step → Type 0) (steps : List Step) (step : Step) → AllByRecur
 last_of P [] step all = all.0
 last_of P (first ∷ steps) step all = last_of P steps step all.1
 
--- Where a landing is answered `landed`, the key without the write is that of each fabric that has made the landing too.
+-- If a landing is answered `landed`, the key without the write is that of each fabric that has made the landing too.
 pub key_once_landed : KeyOnceLanded
 unfolding rule_answer
 key_once_landed plan steps k side place label fabric other made answered owns =

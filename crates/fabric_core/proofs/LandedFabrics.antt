@@ -1,4 +1,4 @@
--- A fabric that another comes to by one landing more.
+-- The fabric that another becomes by one more landing.
 use Rattle.std.proofs.Common.{◌≡◌, ◌≢◌, ◌∙◌, ℕ, ◌<◌, List, [], ◌∷◌, ◌++◌, map, length, refl, sym, ap, subst, get_or, get_or-set_other, get_or-set_same, length-set, set, inl, inr, ◌⊎◌}
 use Rattle.std.proofs.lemmas.Bool.{cases_eq}
 use Rattle.std.proofs.lemmas.List.{append_cancel_left}

@@ -1,4 +1,4 @@
--- The numbers that a fabric keeps are those of the log of the steps that it stands for.
+-- The numbers that a fabric keeps are those of the log of the steps that it represents.
 use Rattle.std.proofs.Common.{◌≡◌, ◌∙◌, ℕ, ◌+◌, ◌<◌, List, count_by, length, refl, ap, subst}
 use Rattle.step_kinds.specs.Sides.{other_side}
 use Rattle.step_kinds.specs.declared.names.LaneName.{LaneName}

@@ -48,7 +48,7 @@ posted-pages : (bridge : Bridge) (side any : Side) (write : PostedWrite) → pag
 posted-pages bridge A any write = refl
 posted-pages bridge B any write = refl
 
--- Where the link is up, further pages promised before a post are all that differs from the post without them.
+-- If the link is up, further pages promised before a post are all that differs from the post without them.
 pub posted_more : (old mid new : Bridge) (side : Side) (write : PostedWrite) → is_up old.link.state ≡ true → HasMorePages old mid → new ≡ with_posted mid side write
     → HasMorePages (posted_aside old side write) new
 posted_more old mid new side write up more is =

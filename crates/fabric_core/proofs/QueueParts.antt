@@ -31,14 +31,14 @@ pub same_part : (queue queue' : QueueState) (flow flow' : Flow) (counters counte
     → part_with queue flow counters accepted delivered ≡ part_with queue' flow' counters' accepted' delivered'
 same_part queue queue' flow flow' counters counters' accepted accepted' delivered delivered' q f c a d = λ i. part_with (q i) (f i) (c i) (a i) (d i)
 
--- a queue box whose queue copies only where it did before has the room that it needs
+-- a queue box whose queue copies only if it did before has the room that it needs
 pub box_kept : (kept : Inside) (new next : QueueState) → IsQueueBox kept → new ≡ next → (is_copying next.port.receiving.phase ≡ true → is_copying kept.queue.port.receiving.phase ≡ true)
     → IsQueueBox (record kept { queue = new })
 box_kept kept new next law is goes_on =
     let same = ap (λ (queue : QueueState). is_copying queue.port.receiving.phase) is in
     record { room = λ later. law.room (goes_on (sym same ∙ later)); numbers = λ later. law.numbers (goes_on (sym same ∙ later)) }
 
--- Where a copy is answered with no whole frame, nothing is counted as delivered, and the part is as it was.
+-- If a copy is answered with no whole frame, nothing is counted as delivered, and the part is as it was.
 pub not_whole : (copy : LaneCopy) (session : ℕ) (part : QueuePart) → ((number : ℕ) (frame : List ℕ) → copy ≡ Whole number frame → ⊥)
     → delivered_where_whole copy session part ≡ part
 not_whole (Whole number frame) session part other = absurd (other number frame refl)
@@ -55,7 +55,7 @@ keeps_copy port bridge ready =
     (same_room (flight_of bridge port.side).spare (unused_of port) (unused_of (after_copy port bridge)) (unused_copied port bridge))
     refl ready
 
--- Where a begin is refused, no frame is counted as accepted, and the part of the queue is as it was.
+-- If a begin is refused, no frame is counted as accepted, and the part of the queue is as it was.
 pub not_begun : (answer : BeginAnswer) (session : ℕ) (part : QueuePart) → ((number : ℕ) → answer ≡ IsBegun number → ⊥)
     → accepted_where_begun (of_begin answer) session part ≡ part
 not_begun (IsBegun number) session part other = absurd (other number refl)

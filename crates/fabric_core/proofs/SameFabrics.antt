@@ -1,4 +1,4 @@
--- What is the same stands for the same steps, and what stands for one list of steps is the same.
+-- What is the same represents the same steps, and what represents one list of steps is the same.
 use Rattle.std.proofs.Common.{◌≡◌, ◌∙◌, ℕ, ◌<◌, ◌||◌, Bool, true, false, not, List, length, refl, sym, ap, subst, if◌then◌else◌}
 use Rattle.std.proofs.lemmas.Bool.{false≢true}
 use Rattle.step_kinds.specs.declared.names.Side.{Side}
@@ -96,7 +96,7 @@ module _ (devs : List DevPlan) (plan : PairPlan) (k : ℕ) (side : Side) (queue 
       (ap (λ (port : PortState). port.sending.todo) stands.port) (ap (λ (port : PortState). port.sending.waiting) stands.port) left))
       ∙ stands.entry is left
 
-  -- a queue that is the same stands for the same view
+  -- a queue that is the same represents the same view
   queue_stands : (forgotten : Bool) (own : QueueView) (part other : QueuePart) → IsSamePart part other →
       QueueStands devs plan k side queue forgotten view part → QueueStands devs plan k side queue forgotten own other →
       QueueStands devs plan k side queue forgotten view other
@@ -116,7 +116,7 @@ module _ (devs : List DevPlan) (plan : PairPlan) (k : ℕ) (side : Side) (queue 
         stops = stands.stops;
       }
 
-  -- two ports that stand for one view
+  -- two ports that represent one view
   same_ports : (forgotten : Bool) (part other : QueuePart) → QueueStands devs plan k side queue forgotten view part → QueueStands devs plan k side queue forgotten view other →
       IsSamePort part.queue.port other.queue.port
   same_ports true part other stands owns =
@@ -138,7 +138,7 @@ module _ (devs : List DevPlan) (plan : PairPlan) (k : ℕ) (side : Side) (queue 
         receiving = ap (λ (port : PortState). port.receiving) stands.port ∙ sym (ap (λ (port : PortState). port.receiving) owns.port);
       }
 
-  -- two queues that stand for one view are the same
+  -- two queues that represent one view are the same
   same_part : (forgotten : Bool) (part other : QueuePart) → QueueStands devs plan k side queue forgotten view part → QueueStands devs plan k side queue forgotten view other →
       IsSamePart part other
   same_part forgotten part other stands owns =
@@ -157,7 +157,7 @@ module _ (devs : List DevPlan) (plan : PairPlan) (k : ℕ) (site : Site) (pair o
   same_link : (own : Site) → IsSamePair pair other → PairStands devs plan k own other → own.pair.link ≡ site.pair.link
   same_link own same owns = sym (ap (λ (bridge : Bridge). bridge.link) owns.bridge) ∙ sym (ap (λ (bridge : Bridge). bridge.link) same.bridge) ∙ ap (λ (bridge : Bridge). bridge.link) stands.bridge
 
-  -- a side that is the same stands for the same ledger
+  -- a side that is the same represents the same ledger
   side_stands : (own : Site) → IsSamePair pair other → PairStands devs plan k own other → (side : Side) → SideStandsIn devs plan k site.pair side (queues_of other side)
   side_stands own same owns side =
       let its = stands.sides side in
@@ -176,7 +176,7 @@ module _ (devs : List DevPlan) (plan : PairPlan) (k : ℕ) (site : Site) (pair o
   pair_stands : (own : Site) → IsSamePair pair other → PairStands devs plan k own other → PairStands devs plan k site other
   pair_stands own same owns = record { bridge = sym same.bridge ∙ stands.bridge; link = stands.link; sides = side_stands own same owns }
 
-  -- two pairs that stand for one ledger are the same
+  -- two pairs that represent one ledger are the same
   same_pair : PairStands devs plan k site other → IsSamePair pair other
   same_pair owns =
       record {
@@ -195,7 +195,7 @@ module _ (devs : List DevPlan) (plan : PairPlan) (k : ℕ) (site : Site) (pair o
 
 -- A fabric
 
--- a fabric that is the same stands for the same steps
+-- a fabric that is the same represents the same steps
 pub same_stands : (plan : Plan) (steps own : List Step) (fabric other : FabricState) → IsSameFabric fabric other → StandsFor plan steps fabric → StandsFor plan own other → StandsFor plan steps other
 same_stands plan steps own fabric other same stands owns =
     record {

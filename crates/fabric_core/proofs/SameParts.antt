@@ -86,7 +86,7 @@ same_both_ways counts other same back session = by_place (found_or_not counts se
 
 -- Tests one after the other
 
--- a first test holds, so both hold exactly where the second does
+-- a first test holds, so both hold if and only if the second does
 pub both_then : (P Q : Type 0) (value test : Bool) → P → (IsTrue test ↔ Q) → value ≡ test → IsTrue value ↔ (P × Q)
 both_then P Q value test has tests is =
     (λ yes. (has, tests.0 (subst (λ (test : Bool). IsTrue test) is yes)), λ both. subst (λ (test : Bool). IsTrue test) (sym is) (tests.1 both.1))
@@ -96,7 +96,7 @@ pub both_else : (P Q : Type 0) (value test : Bool) → (IsTrue test ↔ P) → t
 both_else P Q value test tests fails is =
     (λ yes. absurd (false≢true (sym fails ∙ sym is ∙ yes)), λ both. absurd (false≢true (sym fails ∙ tests.1 both.0)))
 
--- two tests, of which the second is made only where the first holds
+-- two tests, of which the second is made only if the first holds
 both_tests : (P Q : Type 0) (test and : Bool) → (IsTrue test ↔ P) → (IsTrue and ↔ Q) → IsTrue (test && and) ↔ (P × Q)
 both_tests P Q true and first second = both_then P Q and and (first.0 refl) second refl
 both_tests P Q false and first second = both_else P Q false false first refl refl

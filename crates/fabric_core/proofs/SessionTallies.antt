@@ -24,7 +24,7 @@ nowhere_behind one counts session n none = λ k below. none (suc k) (omega arith
 place_behind : (one : SessionCount) (counts : List SessionCount) (session place : ℕ) → IsPlaceOf (one ∷ counts) session (suc place) → IsPlaceOf counts session place
 place_behind one counts session place is = record { within = omega (arith, is.within); there = is.there; first = nowhere_behind one counts session place is.first }
 
--- Where a session has a place among the counts, one frame more of it adds one to the count at that place.
+-- If a session has a place among the counts, one frame more of it adds one to the count at that place.
 pub one_more-there : (counts : List SessionCount) (session place : ℕ) → IsPlaceOf counts session place
     → one_more counts session ≡ set counts place (record { session = session; count = (get_or counts place no_count).count + 1 })
 one_more-there [] session place is = absurd (omega (arith, is.within))
@@ -34,7 +34,7 @@ one_more-there (one ∷ counts) session (suc place) is =
     ap (λ test. if test then record { session = session; count = one.count + 1 } ∷ counts else one ∷ one_more counts session) (differs one.session session (is.first zero (omega arith)))
     ∙ ap (λ rest. one ∷ rest) (one_more-there counts session place (place_behind one counts session place is))
 
--- Where a session has no place among the counts, one frame more of it puts a count of 1 after them.
+-- If a session has no place among the counts, one frame more of it puts a count of 1 after them.
 pub one_more-nowhere : (counts : List SessionCount) (session : ℕ) → IsNowhere counts session (length counts) → one_more counts session ≡ counts ++ record { session = session; count = 1 } ∷ []
 one_more-nowhere [] session none = refl
 one_more-nowhere (one ∷ counts) session none =
@@ -51,7 +51,7 @@ count_in-nowhere (one ∷ counts) session none =
 apart_behind : (one : SessionCount) (counts : List SessionCount) → AreApart (one ∷ counts) → AreApart counts
 apart_behind one counts apart = λ j k before below. apart (suc j) (suc k) (omega arith) (omega arith)
 
--- Where each session is counted at one place, a session has as many frames as the count at its place says.
+-- If each session is counted at one place, a session has as many frames as the count at its place says.
 pub count_in-there : (counts : List SessionCount) (session place : ℕ) → AreApart counts → IsPlaceOf counts session place → count_in counts session ≡ (get_or counts place no_count).count
 count_in-there [] session place apart is = absurd (omega (arith, is.within))
 count_in-there (one ∷ counts) session zero apart is =

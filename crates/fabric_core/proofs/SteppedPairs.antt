@@ -29,14 +29,14 @@ pub stepped_whole : {E : Type 0} (state : PairState) (new : Bridge) (step : Brid
 stepped_whole state new step (Ok answer) whole after err = whole_kept state new whole (turn_promised state.bridge new step after)
 stepped_whole state new step (Err e) whole after err = whole_kept state new whole (more_promised state.bridge new err)
 
--- Where a step on the bridge is made, the pair is as the step's turn leaves it, promises aside.
+-- If a step on the bridge is made, the pair is as the step's turn leaves it, promises aside.
 pub stepped_after : {E : Type 0} (state : PairState) (new : Bridge) (step : BridgeStep) (result : Result Answer E) → OnOk result (HasMorePages (bridge_turn state.bridge step).bridge new)
     → OnOk result (plain_pair (with_bridge state new) ≡ plain_pair (with_bridge state (bridge_turn state.bridge step).bridge))
 stepped_after state new step (Ok answer) after =
     ap (λ bridge. record state { bridge = bridge }) (more_plain (bridge_turn state.bridge step).bridge new after)
 stepped_after state new step (Err e) after = tt
 
--- Where it is out of memory, the pair is as it was, promises aside.
+-- If it is out of memory, the pair is as it was, promises aside.
 pub stepped_err : {E : Type 0} (state : PairState) (new : Bridge) (result : Result Answer E) → OnErr result (HasMorePages state.bridge new) → OnErr result (plain_pair (with_bridge state new) ≡ plain_pair state)
 stepped_err state new (Ok answer) err = tt
 stepped_err state new (Err e) err = ap (λ bridge. record state { bridge = bridge }) (more_plain state.bridge new err)

@@ -1,4 +1,4 @@
--- What a step needs and what it comes to, by the place at which it is made.
+-- What a step needs and its result, by the place at which it is made.
 use Rattle.std.proofs.Common.{◌≡◌, List, Result, subst, sym}
 use Rattle.step_kinds.specs.Places.{by_value, step_place}
 use Rattle.step_kinds.specs.declared.places.BridgeStep.TheVariants.{Poke}
@@ -22,7 +22,7 @@ needed_there devs bridge step place is can = by_cases place (subst (CanMakeAt de
   by_cases (OnBridge (Poke side window offset bytes)) can = can
   by_cases place can = can
 
--- A step comes to what it comes to at its place.
+-- The result of a step is its result at its place.
 pub made_by_place : {E : Type 0} (result : Result Answer E) (devs : List DevPlan) (old new : PairState) (step : Step) (place : StepPlace) → by_value place ≡ step_place step
     → HasMadeAt devs place old new result → HasMadeStep devs step old new result
 made_by_place result devs old new step place is made = subst (λ (place : StepPlace). HasMadeAt devs place old new result) is (by_cases place made) where

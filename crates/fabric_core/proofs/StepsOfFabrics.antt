@@ -1,4 +1,4 @@
--- What a fabric that stands for steps lets its pairs do, and what it stands for after one more.
+-- What a fabric that represents steps lets its pairs do, and what it represents after one more.
 use Rattle.std.proofs.Common.{◌≡◌, ◌≢◌, ◌∙◌, ℕ, ◌<◌, Bool, true, false, List, [], ◌∷◌, ◌++◌, map, length, refl, sym, ap, subst, arith, ext_get_or, get_or-set_other, get_or-set_same, length-set, set, slice_index_or, Result, Ok, Err, IfOk, OnOk, OnErr, IsErr, inl, inr, ◌⊎◌}
 use Rattle.std.specs.List.{AllByRecursion}
 use Rattle.std.proofs.lemmas.Bool.{cases_eq, true≢false}
@@ -53,7 +53,7 @@ use Rattle.fabric_rule.specs.Moves.{move_of}
 same_bridge : (old new : PairState) → plain_pair new ≡ plain_pair old → plain_bridge new.bridge ≡ plain_bridge old.bridge
 same_bridge old new same = ap (λ (pair : PairState). pair.bridge) same
 
--- A pair that differs in promises alone from one that stands for some steps stands for them too.
+-- A pair that differs in promises alone from one that represents some steps represents them too.
 pub stands_plain : (devs : List DevPlan) (plan : PairPlan) (k : ℕ) (site : Site) (old new : PairState) → plain_pair new ≡ plain_pair old → PairStands devs plan k site old → PairStands devs plan k site new
 stands_plain devs plan k site old new same stands =
     record {
@@ -65,11 +65,11 @@ stands_plain devs plan k site old new same stands =
 
 -- The plan of a fabric
 
--- A pair that stands for steps on one of a plan's pairs has that pair's plan in its bridge.
+-- A pair that represents steps on one of a plan's pairs has that pair's plan in its bridge.
 pub plan_of_pair : (devs : List DevPlan) (plan : PairPlan) (k : ℕ) (site : Site) (state : PairState) → PairStands devs plan k site state → state.bridge.plan ≡ plan
 plan_of_pair devs plan k site state stands = ap (λ (bridge : Bridge). bridge.plan) stands.bridge
 
--- A fabric that stands for steps of a plan keeps that plan's pairs and devices, and nothing else of it.
+-- A fabric that represents steps of a plan keeps that plan's pairs and devices, and nothing else of it.
 pub plan_of_standing : (plan : Plan) (steps : List Step) (fabric : FabricState) → StandsFor plan steps fabric → plan_kept fabric ≡ bare_plan plan
 plan_of_standing plan steps fabric stands =
     ap (λ pairs. record { pairs = pairs; devs = fabric.devs; switches = []; steps = []; traffic = [] }) pairs ∙ ap (λ devs. record { pairs = plan.pairs; devs = devs; switches = []; steps = []; traffic = [] }) stands.devs
@@ -109,7 +109,7 @@ declared_bare plan declared =
       one_on_a_queue = declared.one_on_a_queue;
     }
 
--- Where all items of a list have a property and one more has it too, so have all with that one at the end.
+-- If all items of a list have a property and one more has it too, so have all with that one at the end.
 pub all_last : {X : Type 0} (P : X → Type 0) (xs : List X) (x : X) → AllByRecursion P xs → P x → AllByRecursion P (xs ++ x ∷ [])
 all_last P [] x all own = (own, tt)
 all_last P (first ∷ xs) x all own = (all.0, all_last P xs x all.1 own)
@@ -280,7 +280,7 @@ module _ (plan : Plan) (steps : List Step) (step : Step) (old new : FabricState)
         stands = record { devs = moves.devs ∙ made.stands.devs; all_pairs = moves.all_pairs ∙ made.stands.all_pairs; pairs = pair_stands };
       }
 
--- Where nothing but promises changed it stands for the same steps
+-- Where nothing but promises changed it represents the same steps
 
 -- A fabric that differs in promises alone from one that has made some steps has made them too.
 pub still_made : (plan : Plan) (steps : List Step) (old new : FabricState) → plain new ≡ plain old → HasMade plan steps old → HasMade plan steps new
@@ -345,7 +345,7 @@ pub record MadeSome (plan : Plan) (fabric : FabricState) : Type 0 where
   pub steps : List Step
   pub made : HasMade plan steps fabric
 
--- Where a fabric has made some steps of an earlier one's plan, both have the same pairs and devices in their plans.
+-- If a fabric has made some steps of an earlier one's plan, both have the same pairs and devices in their plans.
 pub same_plan : (old new : FabricState) → MadeSome (plan_kept old) new → plan_kept new ≡ plan_kept old
 same_plan old new some = plan_of_standing (plan_kept old) some.steps new some.made.stands
 
@@ -356,7 +356,7 @@ module _ (old : FabricState) (step : Step) (pair : PairState) (may : IsPermitted
   pub among_pairs : subject_of step < length old.pairs
   among_pairs = let below = pair_among (plan_kept old) step may in omega (arith, below, length-map old.pairs (λ (pair : PairState). pair.bridge.plan))
 
-  -- The rule answers a permitted step as the log does, by the pair as it stands.
+  -- The rule answers a permitted step as the log does, by the pair as it is.
   pub rule_answers : (plan : Plan) (steps : List Step) → HasMade plan steps old → IsAnswered plan steps step (rule_answer old step)
   unfolding rule_answer
   rule_answers plan steps made =
@@ -422,7 +422,7 @@ some kept is = record { steps = is.steps; made = record { declared = is.declared
 pub from_some : (kept : Inside) → MadeSome (plan_kept (fabric_seen kept)) (fabric_seen kept) → IsFabric kept
 from_some kept some = record { declared = some.made.declared; steps = some.steps; permitted = some.made.permitted; stands = some.made.stands }
 
--- the pair that a step is made on, as it stands
+-- the pair that a step is made on, as it is
 pub pair_agrees : (fabric : FabricState) (k : ℕ) → MadeSome (plan_kept fabric) fabric → k < length fabric.pairs → Agrees (pair_of fabric k).bridge
 pair_agrees fabric k some below =
     agrees (plan_kept fabric) some.steps k some.made.declared some.made.permitted (omega (arith, below, length-map fabric.pairs (λ (pair : PairState). pair.bridge.plan))) (pair_of fabric k)

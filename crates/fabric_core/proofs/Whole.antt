@@ -130,7 +130,7 @@ peer_kept old new side parts peer_parts queue part within keeps whole peer =
 forgets : (bridge : Bridge) (plan : PairPlan) (side : Side) (queue : ℕ) → HasPagesIn (fresh_port plan side queue) bridge
 forgets bridge plan side queue = record { writes = search rules; flags = λ busy. absurd (cc busy); index_word = λ busy. absurd (cc busy) }
 
--- Where no port of some queues has an unused promise, they have none together.
+-- If no port of some queues has an unused promise, they have none together.
 pub none_unused : (parts : List QueuePart) → ((k : ℕ) → k < length parts → unused_of (get_or parts k no_queue).queue.port ≡ 0) → all_unused parts ≡ 0
 none_unused [] none = refl
 none_unused (part ∷ parts) none =

@@ -1,4 +1,4 @@
--- A fabric as contracts see it: its devices and its pairs; when it stands for the steps that were made; and what a step
+-- A fabric as contracts see it: its devices and its pairs; when it represents the steps that were made; and what a step
 -- needs.
 use Rattle.std.specs.Prelude.{◌≡◌, ℕ, ◌<◌, Bool, true, false, List, [], length, map, slice_index_or}
 use Rattle.step_kinds.specs.declared.names.LaneName.{LaneName}
@@ -39,7 +39,7 @@ bare_plan plan = record plan { switches = []; steps = []; traffic = [] }
 abbrev pub plan_kept : FabricState → Plan
 plan_kept fabric = record { pairs = map (λ pair. pair.bridge.plan) fabric.pairs; devs = fabric.devs; switches = []; steps = []; traffic = [] }
 
--- It stands for these steps of the plan: each of its pairs does.
+-- It represents these steps of the plan: each of its pairs does.
 pub record StandsFor (plan : Plan) (steps : List Step) (fabric : FabricState) : Type 0 where
   pub devs : fabric.devs ≡ plan.devs
   pub all_pairs : length fabric.pairs ≡ length plan.pairs

@@ -9,7 +9,7 @@ use Rattle.fabric_core.specs.declared.fabric.Fabric.TheInside.{Inside}
 abbrev pub fabric_seen : Inside → FabricState
 fabric_seen kept = record { devs = kept.devs.items; pairs = kept.pairs.items }
 
--- it stands for some steps of a plan that a script can declare
+-- it represents some steps of a plan that a script can declare
 pub record IsFabric (kept : Inside) : Type 0 where
   pub declared : IsDeclared (plan_kept (fabric_seen kept))
   pub steps : List Step

@@ -1,4 +1,4 @@
--- The frame that the next copy on a queue delivers, by the fabric as it stands.
+-- The frame that the next copy on a queue delivers, by the fabric as it is.
 use Rattle.std.specs.Prelude.{ℕ, List, None, Option, Some}
 use Rattle.step_kinds.specs.Subject.{subject_of}
 use Rattle.step_kinds.specs.declared.names.LaneName.{LaneName}

@@ -15,7 +15,7 @@ use Rattle.fabric_rule.specs.Parts.{PairState}
 use Rattle.fabric_core.specs.Fabric.{FabricState, pair_of}
 use Rattle.fabric_core.specs.LogClauses.{HasMade, IsAnswered}
 
--- whatever steps a fabric stands for, a landing of that side at this place or a later one is answered `nothing` after
+-- whatever steps a fabric represents, a landing of that side at this place or a later one is answered `nothing` after
 -- them
 abbrev pub LandsNoneFrom : FabricState → ℕ → Side → ℕ → Type 0
 LandsNoneFrom fabric pair side count =
@@ -69,8 +69,8 @@ abbrev pub SameKeys : Type 0
 SameKeys = (plan : Plan) (steps : List Step) (fabric other : FabricState) →
     HasMade plan steps fabric → HasMade plan steps other → fabric_key fabric ≡ fabric_key other
 
--- Where a landing is answered `landed`, the key without that write is the key of each fabric that has made the same
--- steps and the landing after them.
+-- If a landing is answered `landed`, the key without that write is the key of each fabric that has made the same steps
+-- and the landing after them.
 abbrev pub KeyOnceLanded : Type 0
 KeyOnceLanded = (plan : Plan) (steps : List Step) (pair : ℕ) (side : Side) (place : ℕ) (label : Label) (fabric other : FabricState) →
     HasMade plan steps fabric → IsAnswered plan steps (Land pair side place) (Landed label) → HasMade plan (steps ++ Land pair side place ∷ []) other →

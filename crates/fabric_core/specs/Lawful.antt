@@ -1,4 +1,4 @@
--- What always holds of the steps that a fabric stands for, and of the answer to one step more: the laws of
+-- What always holds of the steps that a fabric represents, and of the answer to one step more: the laws of
 -- `ledger_laws`, where memories show what was stored.
 use Rattle.std.specs.Prelude.{List}
 use Rattle.step_kinds.specs.declared.plan.Plan.{Plan}

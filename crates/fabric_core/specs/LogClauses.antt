@@ -1,4 +1,4 @@
--- What the calls of a fabric say of the log of the steps that it stands for.
+-- What the calls of a fabric say of the log of the steps that it represents.
 use Rattle.std.specs.Prelude.{◌≡◌, ℕ, ◌+◌, false, count_by, length, List}
 use Rattle.std.specs.List.{AllByRecursion}
 use Rattle.step_kinds.specs.Subject.{subject_of}
@@ -18,7 +18,7 @@ use Rattle.fabric_core.specs.Fabric.{FabricState, StandsFor}
 abbrev pub log_after : Plan → List Step → List Answered
 log_after plan steps = log_of plan (memory_of plan) steps
 
--- the fabric stands for these steps, which a script of the plan may make
+-- the fabric represents these steps, which a script of the plan may make
 pub record HasMade (plan : Plan) (steps : List Step) (fabric : FabricState) : Type 0 where
   pub declared : IsDeclared plan
   pub permitted : AllByRecursion (IsPermitted plan) steps
@@ -32,7 +32,7 @@ IsAnswered plan steps step answer = GoesOn plan (memory_of plan) steps step answ
 abbrev pub IsLikely : Plan → Step → Answer → Type 0
 IsLikely plan step answer = IsOrdinaryPair plan (subject_of step) → is_unlike answer ≡ false
 
--- whatever steps a fabric stands for, these are the frames of a lane in a session that their log has
+-- whatever steps a fabric represents, these are the frames of a lane in a session that their log has
 
 abbrev pub IsAccepted : FabricState → LaneName → ℕ → ℕ → Type 0
 IsAccepted fabric lane session count = (plan : Plan) (steps : List Step) → HasMade plan steps fabric → count ≡ length (accepted plan (log_after plan steps) lane session)

@@ -67,7 +67,7 @@ pub record HasTurnedUnlessWanting {E : Type 0} (MayWant : Answer → Type 0) (tu
 
 -- A device's frame, as its calls count it
 
--- a device's frame is counted, once it was begun, which left so many entries free
+-- a device's frame is counted, once it was begun, which left this many entries free
 abbrev pub counted_begun : QueuePart → ℕ → ℕ → QueuePart
 counted_begun part free len =
     record part { flow = record part.flow { stopped = stopped_after_send part.flow free }; counters = count_accepted part.counters len }

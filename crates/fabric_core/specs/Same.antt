@@ -72,8 +72,8 @@ pub record AreOfOneSide (parts others : List QueuePart) : Type 0 where
   pub all : length parts ≡ length others
   pub each : (queue : ℕ) → queue < length parts → AreOfOnePlace (slice_index_or parts queue no_queue) (slice_index_or others queue no_queue)
 
--- Two fabrics are the same, and the one has made some steps of a plan. Where the other has made any steps of that plan,
--- it has made these too.
+-- Two fabrics are the same, and the one has made some steps of a plan. If the other has made any steps of that plan, it
+-- has made these too.
 abbrev pub SameHasMadeSame : Type 0
 SameHasMadeSame = (plan : Plan) (steps own : List Step) (fabric other : FabricState) →
     IsSameFabric fabric other → HasMade plan steps fabric → HasMade plan own other → HasMade plan steps other

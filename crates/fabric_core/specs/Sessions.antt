@@ -22,7 +22,7 @@ no_count = record { session = 0; count = 0 }
 abbrev pub AreApart : List SessionCount → Type 0
 AreApart counts = (j k : ℕ) → j < k → k < length counts → (slice_index_or counts j no_count).session ≢ (slice_index_or counts k no_count).session
 
--- no session is above this one, and none has more frames than so many
+-- no session is above this one, and none has more frames than this many
 abbrev pub AreUpTo : List SessionCount → ℕ → Type 0
 AreUpTo counts most = (k : ℕ) → k < length counts → (slice_index_or counts k no_count).session ≤ most
 

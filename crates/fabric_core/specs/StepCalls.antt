@@ -1,4 +1,4 @@
--- What a step comes to for the part of a pair on which it is made: its contract, over the part before and after it.
+-- The result of a step for the part of a pair on which it is made: its contract, over the part before and after it.
 use Rattle.std.specs.Prelude.{◌≡◌, true, List, IfOk, IsErr, OnErr, OnOk, Result}
 use Rattle.step_kinds.specs.Places.{step_place}
 use Rattle.step_kinds.specs.declared.places.QueueStep.{QueueStep}
@@ -30,7 +30,7 @@ pub record HasMadeOnQueue {E : Type 0} (devs : List DevPlan) (step : QueueStep) 
   pub keeps : KeepsPort old.queue.port new.queue.port early late
   -- out of memory comes of steps alone that may want memory
   pub wants : IsErr result → queue_wants_memory step ≡ true
-  -- and only where the turn doesn't refuse them, or a refusal can't be counted
+  -- and only if the turn doesn't refuse them, or a refusal can't be counted
   pub border : OnErr result (MayWantOnQueue old.counters step (queue_turn devs old early step).answer)
 
 -- on a pair at a place of it
@@ -43,7 +43,7 @@ pub record HasMadeAt {E : Type 0} (devs : List DevPlan) (place : StepPlace) (old
   pub err : OnErr result (plain_pair new ≡ plain_pair old)
   -- that comes of steps alone that may want memory
   pub wants : IsErr result → wants_memory_at place ≡ true
-  -- and only where the move doesn't refuse them, or a refusal can't be counted
+  -- and only if the move doesn't refuse them, or a refusal can't be counted
   pub border : OnErr result (MayWantAt old place (move_at devs old place).answer)
 
 abbrev pub HasMadeStep : {E : Type 0} (devs : List DevPlan) (step : Step) (old new : PairState) (result : Result Answer E) → Type 0

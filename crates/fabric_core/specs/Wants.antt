@@ -1,4 +1,4 @@
--- Where a step may be out of memory: only where it is made, so that a step that is refused gets its refusal. But a
+-- Where a step may be out of memory: only if it is made, so that a step that is refused gets its refusal. But a
 -- device's begin may be also where its refusals can't be counted any more.
 use Rattle.std.specs.Prelude.{◌≡◌, true, List}
 use Rattle.step_kinds.specs.Places.{step_place}

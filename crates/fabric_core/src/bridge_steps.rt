@@ -33,11 +33,11 @@ use queue_pair::irq;
 use std::alloc::{AllocError, Global};
 use step_kinds::{Answer, BridgeStep, Frame, Label, Side};
 
-/// Makes a step on the bridge and answers it.
+/// Makes a step on the bridge and returns its answer.
 ///
 /// # Errors
 ///
-/// [`AllocError`] from out of memory alone. Further pages may then be promised, and nothing else changes.
+/// [`AllocError`] if memory runs out. Further pages may then be promised, and nothing else changes.
 #[inline(always)]
 pub fn bridge_step(pair: &mut Pair, alloc: Global, step: BridgeStep) -> Result<Answer, AllocError>
     requires { CanTurn pair.old step }

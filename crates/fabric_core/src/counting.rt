@@ -1,4 +1,4 @@
-//! Counting the frames of a device. Where a count is [`MOST_COUNT`], out of memory is answered before it grows.
+//! Counting the frames of a device. If a count is [`MOST_COUNT`], out of memory is answered before it grows.
 
 ghost use Rattle.std.specs.Prelude.{IsTrue, ◌<◌, ◌↔◌, ◌≡◌, ◌≤◌};
 ghost use Rattle.step_kinds.specs.Limits.{most_count};
@@ -44,7 +44,7 @@ pub fn can_deliver(counters: Counters) -> bool
     counters.rx < MOST_COUNT && counters.rx_bytes < MOST_COUNT && counters.short < MOST_COUNT
 }
 
-/// One frame more, of so many bytes, was accepted.
+/// One frame more, of this many bytes, was accepted.
 pub fn accepted(counters: Counters, len: u32) -> Counters
     requires { HasRoomToSend counters }
     ensures { result ≡ count_accepted counters len }
@@ -67,7 +67,7 @@ pub fn refused(counters: Counters) -> Counters
     }
 }
 
-/// One frame more, of so many bytes, was delivered.
+/// One frame more, of this many bytes, was delivered.
 pub fn delivered(counters: Counters, len: u32) -> Counters
     requires { HasRoomToDeliver counters }
     ensures { result ≡ count_delivered counters len }

@@ -99,7 +99,7 @@ impl SessionCounts {
     ///
     /// # Errors
     ///
-    /// [`AllocError`] from out of memory alone.
+    /// [`AllocError`] if memory runs out.
     pub fn copy_of(&self, alloc: Global) -> Result<SessionCounts, AllocError>
         ensures { IfOk result (λ copy. copy ≡ self.now) }
     {

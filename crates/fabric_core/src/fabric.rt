@@ -36,7 +36,7 @@ impl Fabric {
     ///
     /// # Errors
     ///
-    /// [`AllocError`] from out of memory alone.
+    /// [`AllocError`] if memory runs out.
     pub fn new(alloc: Global, plan: &Plan) -> Result<Fabric, AllocError>
         requires { IsDeclared plan.now }
         ensures stands { IfOk result (λ fabric. StandsFor plan.now [] fabric) }
@@ -51,13 +51,13 @@ impl Fabric {
         Ok(Fabric { devs, pairs })
     }
 
-    /// Makes a step, which has to be one that a script of the fabric's plan may make, and answers it. Whatever steps
-    /// the fabric stands for, the answer is the log's of those steps and this one, and then it stands for them and this
-    /// one.
+    /// Makes a step, which has to be one that a script of the fabric's plan may make, and returns its answer. Whatever
+    /// steps the fabric represents, the answer is the log's of those steps and this one, and then it represents them
+    /// and this one.
     ///
     /// So the answer says what the log of those steps says. `linkdown`, `notready`, `closed`, `toolong` and `busy` come
-    /// exactly where the log says so. So do `stopped`, `again`, `empty` and `peerdown` on ordinary pairs, that is, on
-    /// pairs that aren't declared `raw`. On these `up` comes only where all of the peer's numbers have landed in the
+    /// if and only if the log says so. So do `stopped`, `again`, `empty` and `peerdown` on ordinary pairs, that is, on
+    /// pairs that aren't declared `raw`. On these `up` comes only if all of the peer's numbers have landed in the
     /// session and agree, and neither `verdiffers` nor `long` comes.
     ///
     /// A refusal leaves the fabric as it was, promised room and pages aside. Two things change all the same: a device's
@@ -73,7 +73,7 @@ impl Fabric {
     ///
     /// [`AllocError`] from out of memory, or where a count would pass 2^62. That is one of a lane's entries in the
     /// session, of its frames in all sessions, or of what a device's counters count. It comes only of a step that
-    /// promises room or pages or shows memory, and that the log doesn't refuse. The fabric stands for the same steps as
+    /// promises room or pages or shows memory, and that the log doesn't refuse. The fabric represents the same steps as
     /// before then, and nothing but promised room and pages has changed. A device's frame gets it too where its refusal
     /// would be one more than 2^62.
     #[inline(always)]
@@ -92,7 +92,7 @@ impl Fabric {
     ///
     /// # Errors
     ///
-    /// [`AllocError`] from out of memory alone, and only where there is such a frame.
+    /// [`AllocError`] if memory runs out, and only if there is such a frame.
     pub fn frame_due(&self, own: LaneName) -> Result<Option<Frame>, AllocError>
         requires { IsQueueOf (plan_kept self.now) own.pair own.from own.queue }
         ensures value { IfOk result (λ due. due ≡ frame_due self.now own) }
@@ -161,8 +161,8 @@ impl Fabric {
     /// Whether no step can tell two fabrics apart, which have to be of the same pairs and devices. Left out are
     /// promised room and pages, and what a queue keeps of a frame that it has posted whole.
     ///
-    /// Where the answer is `true`, whatever steps the one stands for, so does the other. Where both stand for one list
-    /// of steps, it is `true`. It takes no memory.
+    /// If the answer is `true`, whatever steps the one represents, so does the other. If both represent one list of
+    /// steps, it is `true`. It takes no memory.
     pub fn is_same(&self, other: &Fabric) -> bool
         requires { plan_kept self.now ≡ plan_kept other.now }
         ensures merges { result ≡ true → (plan : DeclaredPlan) (steps : List MadeStep) → HasMade plan steps self.now → HasMade plan steps other.now }
@@ -175,9 +175,9 @@ impl Fabric {
     /// fabric apart from another. [`Fabric::is_same`] says what no step can tell apart. The pair has to be one of the
     /// fabric's, and both fabrics have to be of the same pairs and devices.
     ///
-    /// Where the answer is `true`, the other stands for whatever steps this one stands for and the landing after them.
-    /// Where it stands for such a list, and the landing is answered `landed`, the answer is `true`. It is found out
-    /// without landing the write, and takes no memory.
+    /// If the answer is `true`, the other represents whatever steps this one represents and the landing after them. If
+    /// it represents such a list, and the landing is answered `landed`, the answer is `true`. It is found out without
+    /// landing the write, and takes no memory.
     pub fn lands_as(&self, pair: u32, side: Side, place: usize, other: &Fabric) -> bool
         requires plans { plan_kept self.now ≡ plan_kept other.now }
         requires pair { IsPairOf (plan_kept self.now) pair }
@@ -188,11 +188,11 @@ impl Fabric {
             && are_same_but(&self.pairs, &other.pairs, pair as usize)
     }
 
-    /// A fabric in the same state, with the same promises. It stands for whatever steps this one stands for.
+    /// A fabric in the same state, with the same promises. It represents whatever steps this one represents.
     ///
     /// # Errors
     ///
-    /// [`AllocError`] from out of memory alone.
+    /// [`AllocError`] if memory runs out.
     pub fn copy_of(&self, alloc: Global) -> Result<Fabric, AllocError>
         ensures { IfOk result (λ copy. copy ≡ self.now) }
     {
@@ -213,11 +213,11 @@ impl Fabric {
     }
 
     /// Adds the key of all that is in flight, by which fabrics that may be the same are found among others. Those that
-    /// stand for one list of steps have the same key.
+    /// represent one list of steps have the same key.
     ///
     /// # Errors
     ///
-    /// [`AllocError`] from out of memory alone. A part of the key may then be there.
+    /// [`AllocError`] if memory runs out. A part of the key may then be there.
     pub fn push_key(&self, key: &mut Vec<u8>) -> Result<(), AllocError>
         ensures { OnOk result (key.new.items ≡ key.old.items ++ fabric_key self.now) }
     {
@@ -229,7 +229,7 @@ impl Fabric {
     ///
     /// # Errors
     ///
-    /// [`AllocError`] from out of memory alone. A part of the key may then be there.
+    /// [`AllocError`] if memory runs out. A part of the key may then be there.
     pub fn push_key_without(
         &self,
         pair: u32,

@@ -11,7 +11,7 @@ use step_kinds::{Label, Side};
 ///
 /// # Errors
 ///
-/// [`AllocError`] from out of memory alone. A part of the key may then be there.
+/// [`AllocError`] if memory runs out. A part of the key may then be there.
 pub fn push_flight(key: &mut Vec<u8>, pair: &Pair, side: Side) -> Result<(), AllocError>
     ensures { OnOk result (key.new.items ≡ key.old.items ++ flight_key pair.now side) }
 {
@@ -22,7 +22,7 @@ pub fn push_flight(key: &mut Vec<u8>, pair: &Pair, side: Side) -> Result<(), All
 ///
 /// # Errors
 ///
-/// [`AllocError`] from out of memory alone. A part of the key may then be there.
+/// [`AllocError`] if memory runs out. A part of the key may then be there.
 pub fn push_flight_without(
     key: &mut Vec<u8>,
     pair: &Pair,

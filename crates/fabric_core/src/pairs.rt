@@ -45,7 +45,7 @@ impl PairBox {
     ///
     /// # Errors
     ///
-    /// [`AllocError`] from out of memory alone.
+    /// [`AllocError`] if memory runs out.
     pub fn new(
         alloc: Global,
         devs: &[DevPlan],
@@ -64,7 +64,7 @@ impl PairBox {
         })
     }
 
-    /// Makes a step on the pair and answers it.
+    /// Makes a step on the pair and returns its answer.
     ///
     /// # Errors
     ///
@@ -159,7 +159,7 @@ impl PairBox {
     ///
     /// # Errors
     ///
-    /// [`AllocError`] from out of memory alone, and only where there is such a frame.
+    /// [`AllocError`] if memory runs out, and only if there is such a frame.
     pub fn frame_due(&self, side: Side, queue: u32) -> Result<Option<Frame>, AllocError>
         requires { queue < (side_plan_of self.now.bridge.plan side).queues }
         ensures { IsDue (queue_of self.now side queue).queue.port self.now.bridge result }
@@ -199,7 +199,7 @@ impl PairBox {
     ///
     /// # Errors
     ///
-    /// [`AllocError`] from out of memory alone.
+    /// [`AllocError`] if memory runs out.
     pub fn copy_of(&self, alloc: Global) -> Result<PairBox, AllocError>
         ensures { IfOk result (λ copy. copy ≡ self.now) }
     {
@@ -222,7 +222,7 @@ impl PairBox {
     ///
     /// # Errors
     ///
-    /// [`AllocError`] from out of memory alone. A part of the key may then be there.
+    /// [`AllocError`] if memory runs out. A part of the key may then be there.
     pub fn push_key(&self, key: &mut Vec<u8>) -> Result<(), AllocError>
         ensures { OnOk result (key.new.items ≡ key.old.items ++ pair_key self.now) }
     {
@@ -234,7 +234,7 @@ impl PairBox {
     ///
     /// # Errors
     ///
-    /// [`AllocError`] from out of memory alone. A part of the key may then be there.
+    /// [`AllocError`] if memory runs out. A part of the key may then be there.
     pub fn push_key_without(
         &self,
         side: Side,

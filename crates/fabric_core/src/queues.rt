@@ -65,7 +65,7 @@ impl QueueBox {
         }
     }
 
-    /// Makes a step on the queue and answers it.
+    /// Makes a step on the queue and returns its answer.
     ///
     /// # Errors
     ///
@@ -159,7 +159,7 @@ impl QueueBox {
         self.refuse(answer)
     }
 
-    // What a device's frame of so many bytes is answered. It takes no memory.
+    // What a device's frame of this many bytes is answered. It takes no memory.
     fn frame_answer(&self, pair: &Pair, len: u32) -> Answer
         requires ready { CanBegin self.now.queue pair.now }
         requires few { len ≤ most_frame_bytes }
@@ -276,7 +276,7 @@ impl QueueBox {
     ///
     /// # Errors
     ///
-    /// [`AllocError`] from out of memory alone, and only where there is such a frame.
+    /// [`AllocError`] if memory runs out, and only if there is such a frame.
     pub fn frame_due(&self, alloc: Global, pair: &Pair) -> Result<Option<Frame>, AllocError>
         requires { pair.now.plan ≡ self.now.queue.port.plan }
         ensures { IsDue self.now.queue.port pair.now result }
@@ -378,7 +378,7 @@ impl QueueBox {
     ///
     /// # Errors
     ///
-    /// [`AllocError`] from out of memory alone.
+    /// [`AllocError`] if memory runs out.
     pub fn copy_of(&self, alloc: Global) -> Result<QueueBox, AllocError>
         ensures { IfOk result (λ copy. copy ≡ self.now) }
     {

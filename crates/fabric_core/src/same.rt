@@ -19,8 +19,8 @@ pub fn same_keys()
     ensures { SameKeys }
 {}
 
-/// Where a landing is answered `landed`, the key without that write is the key of each fabric that has made the same
-/// steps and the landing after them. No premise. It does nothing: its clause is the law.
+/// If a landing is answered `landed`, the key without that write is the key of each fabric that has made the same steps
+/// and the landing after them. No premise. It does nothing: its clause is the law.
 pub fn key_once_landed()
     ensures { KeyOnceLanded }
 {}

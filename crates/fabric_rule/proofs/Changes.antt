@@ -49,7 +49,7 @@ grows_at {side = side} {queue = queue} {old = old} {new = new} more one grows ot
   | inr ne ↦ ([], ap (λ (lane : LanePart). lane.sent) (one.others other ne) ∙ sym (append-nil (sent_of (at_side old side) other)))
 ]
 
--- Where one queue of a side changes, each of its peer's queues still has the entries that were sent on it.
+-- If one queue of a side changes, each of its peer's queues still has the entries that were sent on it.
 pub peer_grows : {side peer : Side} {queue : ℕ} {old new : Both (ℕ → LanePart)} {lane : LanePart} → OneChanges side peer queue old new lane → SentGrows (sent_of (at_side old peer)) (sent_of (at_side new peer))
 peer_grows {peer = peer} {old = old} one other = ([], ap (λ (lane : LanePart). lane.sent) (one.peers other) ∙ sym (append-nil (sent_of (at_side old peer) other)))
 
@@ -60,7 +60,7 @@ pub record OneCloses (side peer : Side) (queue : ℕ) (old new : Both SidePart) 
   pub others : (other : ℕ) → (other ≡ queue → ⊥) → has_bit (at_side new side).closed other ≡ has_bit (at_side old side).closed other
   pub peers : (other : ℕ) → has_bit (at_side new peer).closed other ≡ has_bit (at_side old peer).closed other
 
--- Where both sides stay as they were, each of their queues is closed just if it was before.
+-- If both sides stay as they were, each of their queues is closed just if it was before.
 pub none_closes : (old : Both SidePart) (side peer : Side) (queue : ℕ) → OneCloses side peer queue old old (has_bit (at_side old side).closed queue)
 none_closes old side peer queue = record { alike = λ s. refl; here = refl; others = λ other ne. refl; peers = λ other. refl }
 

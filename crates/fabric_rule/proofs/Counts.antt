@@ -45,7 +45,7 @@ updated-one_more f session other = elim (cases_eq other session) [
       ∙ (let same : f other ≡ f other + 0 = omega arith in same) ∙ ap (λ b. f other + (if b then 1 else 0)) (sym (ne_eqb session other (λ e. ne (sym e))))
 ]
 
--- a session's count that stands for what is read of tallies, with one more of both
+-- a session's count that represents what is read of tallies, with one more of both
 pub counts_one_more : {X : Type 0} (g : X → ℕ) (counts : List SessionCount) (tallies : ℕ → X) (session : ℕ) (tally : X) → ((other : ℕ) → count_in counts other ≡ g (tallies other)) → g tally ≡ g (tallies session) + 1
     → (other : ℕ) → count_in (one_more counts session) other ≡ g (updated tallies session tally other)
 counts_one_more g counts tallies session tally same more other =

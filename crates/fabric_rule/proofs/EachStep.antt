@@ -1,4 +1,4 @@
--- Every step: a fabric answers as the ledger says, and then stands for one step more.
+-- Every step: a fabric answers as the ledger says, and then represents one step more.
 use Rattle.std.proofs.Common.{◌≡◌, ℕ, ◌≤◌, ◌==◌, Bool, true, false, None, List, [], ◌∷◌, ◌++◌, refl, sym, ap, ◌∙◌, subst, ⊎_elim}
 use Rattle.std.specs.Prelude.{if◌then◌else◌}
 use Rattle.std.specs.List.{AllByRecursion}
@@ -142,7 +142,7 @@ module _ (plan : Plan) where
                 (up_then side (site_of plan k steps).pair))))).size_fits;
           }
 
--- the reading of a pair comes to the same as its bytes
+-- the reading of a pair is the same as its bytes
 same_outcome : (plan : Plan) (steps : List Step) (step : Step) → IsDeclared plan → AllByRecursion (IsPermitted plan) steps → IsPermitted plan step → IsPairOf plan (subject_of step)
     → made_by_bytes plan.devs (pair_plan plan (subject_of step)) (site_of plan (subject_of step) steps) step
     ≡ pair_next plan.devs (pair_plan plan (subject_of step)) (bytes_of_site (site_of plan (subject_of step) steps)) (site_of plan (subject_of step) steps).pair step
@@ -161,7 +161,7 @@ same_outcome plan steps step declared may own among = by_raw (pair_plan plan (su
     by_raw true is = ap by (sym is)
     by_raw false is = bytes_say_the_ledger plan steps step declared may own among is ∙ ap by (sym is)
 
--- A pair that stands for the permitted steps made answers one more as the ledger does, and then stands for it too.
+-- A pair that represents the permitted steps made answers one more as the ledger does, and then represents it too.
 pub each_step_stands : EachStepStands
 each_step_stands plan steps step state declared may own among stands = (follows.0, subst (λ (site : Site). PairStands plan.devs (pair_plan plan (subject_of step)) (subject_of step) site (move_of plan.devs state step).after) (sym (one_more plan steps step)) follows.1)
   where

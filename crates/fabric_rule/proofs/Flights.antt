@@ -33,7 +33,7 @@ all_remove P [] (suc place) all = tt
 all_remove P (x ∷ xs) zero all = all.1
 all_remove P (x ∷ xs) (suc place) all = (all.0, all_remove P xs place all.1)
 
--- Where one property implies another and all members of a list have the first, all have the second.
+-- If one property implies another and all members of a list have the first, all have the second.
 pub all_weaker : {X : Type 0} (P Q : X → Type 0) → ((x : X) → P x → Q x) → (xs : List X) → AllByRecursion P xs → AllByRecursion Q xs
 all_weaker P Q weaker [] all = tt
 all_weaker P Q weaker (x ∷ xs) all = (weaker x all.0, all_weaker P Q weaker xs all.1)
@@ -95,7 +95,7 @@ module _ (plan : PairPlan) (side : Side) where
       flying_of_entry : Entry → Flying
       flying_of_entry entry = flying_of plan side (write_of plan side entry (raw_bytes label poked) label)
 
--- Where the raw writes of two lists of labels have their bytes, those of the joined list have the joined bytes.
+-- If the raw writes of two lists of labels have their bytes, those of the joined list have the joined bytes.
 pub have-push : (labels : List Label) (poked : List (List ℕ)) (more : List Label) (bytes : List (List ℕ)) → HaveBytes labels poked → HaveBytes more bytes → HaveBytes (labels ++ more) (poked ++ bytes)
 have-push [] [] more bytes have own = own
 have-push [] (one ∷ poked) more bytes have own = absurd have

@@ -1,4 +1,4 @@
--- What is owed of each step: its answer is the ledger's, and the pair after it stands for one step more.
+-- What is owed of each step: its answer is the ledger's, and the pair after it represents one step more.
 use Rattle.std.proofs.Common.{◌≡◌, ℕ, ◌==◌, true, false, List, ◌++◌, refl, sym, ap, ◌∙◌, subst, inl, inr}
 use Rattle.std.specs.Prelude.{if◌then◌else◌}
 use Rattle.std.proofs.lemmas.Bool.{eq-eqb, ne_eqb, cases_eq}
@@ -67,7 +67,7 @@ made_by_bytes devs plan site step = read_next devs plan (by_bytes plan (bytes_of
 abbrev pub AllSides : List DevPlan → PairPlan → ℕ → PairPart → Both (List QueuePart) → Type 0
 AllSides devs plan k pair queues = (side : Side) → SideStandsIn devs plan k pair side (at_side queues side)
 
--- a state that stands for a site is the site's
+-- a state that represents a site is the site's
 pub state_is : (devs : List DevPlan) (plan : PairPlan) (k : ℕ) (site : Site) (state : PairState) → PairStands devs plan k site state
     → state ≡ state_for plan site (pages_in state.bridge) (spare_in state.bridge) state.queues
 state_is devs plan k site state h = ap (λ (bridge : Bridge). record { bridge = with_promises bridge (pages_in state.bridge) (spare_in state.bridge); queues = state.queues }) h.bridge
@@ -92,7 +92,7 @@ updated_here f k x = ap (λ b. if b then x else f k) (eq-eqb k k refl)
 pub updated_other : {X : Type 0} (f : ℕ → X) (k : ℕ) (x : X) (j : ℕ) → (j ≡ k → ⊥) → updated f k x j ≡ f j
 updated_other f k x j other = ap (λ b. if b then x else f j) (ne_eqb j k other)
 
--- Where a function's new value at a number reads as the old one there, all its values read as before.
+-- If a function's new value at a number reads as the old one there, all its values read as before.
 pub updated_same : {X Y : Type 0} (g : X → Y) (f : ℕ → X) (k : ℕ) (x : X) → g x ≡ g (f k) → (j : ℕ) → g (updated f k x j) ≡ g (f j)
 updated_same g f k x same j = elim (cases_eq j k) [
   | inl e ↦ ap (λ b. g (if b then x else f j)) (eq-eqb j k e) ∙ same ∙ ap (λ i. g (f i)) (sym e)

@@ -156,6 +156,6 @@ fresh_pair_at devs plan false k pages state declared h =
       sides = by_side _ (side_down devs (plan_with plan false) k A state.queues.a (h.all_queues A) (h.queues A)) (side_down devs (plan_with plan false) k B state.queues.b (h.all_queues B) (h.queues B));
     }
 
--- A pair of a fabric before any step stands for no steps, if a script can declare its plan.
+-- A pair of a fabric before any step represents no steps, if a script can declare its plan.
 pub fresh_pair_stands : FreshPairStands
 fresh_pair_stands devs plan k pages state declared h = fresh_pair_at devs plan plan.up k pages state declared h

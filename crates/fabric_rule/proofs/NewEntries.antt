@@ -48,7 +48,7 @@ last-begun queue sends first others told =
     ap (λ n. slice_index_or (sends.sent ++ first ∷ []) n GoesDown) (let l = length-begun sends.sent first in let e : length (sends.sent ++ first ∷ []) - 1 ≡ length sends.sent = omega (arith, l) in e)
     ∙ get_or_push sends.sent first GoesDown (length sends.sent) refl
 
--- Where a pair's sizes fit, and an entry and those waiting fit a slot, a sender that begins it has all in place.
+-- If a pair's sizes fit, and an entry and those waiting fit a slot, a sender that begins it has all in place.
 pub begun_in_place : (plan : PairPlan) (side : Side) (queue : ℕ) (sends : SendingEnd) (first : Entry) (others : List Entry) (told : ℕ) → SizesFit plan → FitsSlot plan side queue first → AllByRecursion (FitsSlot plan side queue) others
     → SendingInPlace plan side queue (begun_end queue sends first others told)
 begun_in_place plan side queue sends first others told fits short all =
@@ -103,7 +103,7 @@ some_pieces largest len = at_least ((len + largest - 1) / largest)
 
 -- Room
 
--- what is free after so many entries were begun
+-- what is free after this many entries were begun
 free_step : (entries head more index : ℕ) → head < entries → index < entries → more ≤ free_entries entries head index → 1 ≤ more
     → free_entries entries ((head + more) % entries) index ≡ free_entries entries head index - more
 free_step entries head more index p q room one = elim (cases_lt index head) [

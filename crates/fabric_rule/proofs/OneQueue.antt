@@ -78,7 +78,7 @@ module _ {devs : List DevPlan} {plan : PairPlan} {k : ℕ} (now : Standing devs 
   joined_is A queue = refl
   joined_is B queue = refl
 
-  -- what is kept stands for the site
+  -- what is kept represents the site
   pub stands_now : PairStands devs plan k now.site kept
   stands_now = record { bridge = refl; link = now.link; sides = now.sides }
 
@@ -237,7 +237,7 @@ module _ {devs : List DevPlan} {plan : PairPlan} {k : ℕ} (now : Standing devs 
         closed = has_bit (side_of now.site.pair side).closed queue;
       }) own)
 
-  -- What a queue stands for then
+  -- What a queue represents then
 
   -- its receiver is at another place
   abbrev pub received_part : Side → ℕ → LanePart → QueuePart

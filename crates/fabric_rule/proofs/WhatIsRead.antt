@@ -30,7 +30,7 @@ pub own_fits : (plan : PairPlan) → SizesFit plan → (side : Side) → (side_p
 own_fits plan fits A = fits.1
 own_fits plan fits B = fits.0
 
--- Where the sizes of a pair fit, a side's windows are no larger than those that its peer's memory gives.
+-- If the sizes of a pair fit, a side's windows are no larger than those that its peer's memory gives.
 pub peer_fits : (plan : PairPlan) → SizesFit plan → (side : Side) → (side_plan plan side).size ≤ (side_plan plan (other_side side)).cap
 peer_fits plan fits A = fits.0
 peer_fits plan fits B = fits.1

@@ -1,4 +1,4 @@
--- The laws of what a fabric keeps: it stands for the steps made, whichever of those that the plan permits.
+-- The laws of what a fabric keeps: it represents the steps made, whichever of those that the plan permits.
 use Rattle.std.specs.Prelude.{◌≡◌, ℕ, false, ◌<◌, ◌∷◌, [], ◌++◌, List, length}
 use Rattle.std.specs.List.{AllByRecursion}
 use Rattle.step_kinds.specs.Subject.{subject_of}
@@ -35,12 +35,12 @@ pub record IsFreshPair (devs : List DevPlan) (plan : PairPlan) (k : ℕ) (pages 
   pub all_queues : (side : Side) → length (queues_of state side) ≡ (side_plan plan side).queues
   pub queues : (side : Side) (queue : ℕ) → queue < (side_plan plan side).queues → IsFreshQueue devs plan k side queue (queue_of state side queue)
 
--- it stands for no steps
+-- it represents no steps
 abbrev pub FreshPairStands : Type 0
 FreshPairStands = (devs : List DevPlan) (plan : PairPlan) (k : ℕ) (pages : Both (List ℕ)) (state : PairState) → IsPair plan →
     IsFreshPair devs plan k pages state → PairStands devs plan k (fresh_site plan) state
 
--- and where it stands for the steps made, a further one is answered as the ledger says, and then it stands for one step
+-- and where it represents the steps made, a further one is answered as the ledger says, and then it represents one step
 -- more
 abbrev pub EachStepStands : Type 0
 EachStepStands = (plan : Plan) (steps : List Step) (step : Step) (state : PairState) → IsDeclared plan → AllByRecursion (IsPermitted plan) steps →

@@ -1,4 +1,4 @@
--- When what a fabric keeps of a pair stands for the ledger of the steps that were made. Link, registers, books, counts
+-- When what a fabric keeps of a pair represents the ledger of the steps that were made. Link, registers, books, counts
 -- and lists in flight are the ledger's. Each byte of its memories is the last one that was stored there, and what a
 -- port keeps of the entry at hand is that entry.
 use Rattle.std.specs.Prelude.{◌≡◌, ℕ, ◌<◌, ◌&&◌, ◌⊎◌, Bool, true, false, Option, Some, None, List, [], ◌∷◌, length, slice_index_or, if◌then◌else◌}

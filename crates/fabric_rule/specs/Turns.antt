@@ -121,7 +121,7 @@ frame_turn part bridge frame =
     let answer = frame_answer part bridge (length frame) in
     record { answer = answer; part = xbegun answer bridge part frame; bridge = bridge }
 
--- what a call of the queue's port comes to
+-- the result of a call of the queue's port
 abbrev pub port_turn : QueuePart → Answer → PortState → Bridge → QueueTurn
 port_turn part answer port bridge = record { answer = answer; part = record part { queue = with_port part.queue port }; bridge = bridge }
 

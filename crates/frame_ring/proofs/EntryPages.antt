@@ -50,7 +50,7 @@ at_offset rings peer at window offset sides is_window is_at =
     is_at ∙ ap (λ window. window * (side_plan rings.plan peer).cap + offset) is_window
     ∙ ap (λ (side : Side). window_of (layout_of rings.plan rings.side rings.queue) * (side_plan rings.plan side).cap + offset) sides
 
--- Where the peer has the queue's window, pages that grow only by a range's address grow only by that range of it.
+-- If the peer has the queue's window, pages that grow only by a range's address grow only by that range of it.
 pub range_grows : (rings : QueueOf) (pair new : Bridge) (peer : Side) (at offset len : ℕ) → peer ≡ other_side rings.side → ReachesPeer rings → at ≡ queue_address rings.plan rings.side rings.queue offset
     → PagesGrow (Touches at len) (pages_of pair peer) (pages_of new peer)
     → PagesGrow (TouchesRange rings offset len) (pages_of pair (other_side rings.side)) (pages_of new (other_side rings.side))
@@ -76,14 +76,14 @@ entry_still rings touched n len old new grow promised =
 
 -- An entry: first its payload, then its header
 
--- Pages that grow only where an entry's payload touches them grow only where the entry does.
+-- Pages that grow only if an entry's payload touches them grow only if the entry does.
 pub payload_grows : (rings : QueueOf) (n len at : ℕ) (old now : List ℕ) → at ≡ slot_offset rings.plan rings.side rings.queue n
     → PagesGrow (TouchesRange rings at len) old now → PagesGrow (TouchesEntry rings n len) old now
 payload_grows rings n len at old now is_at grow =
     grows_further (TouchesEntry rings n len) (TouchesRange rings at len) old old now (grows_nothing (TouchesEntry rings n len) old) grow
     (λ page touch. inl (subst (λ at. TouchesRange rings at len page) is_at touch))
 
--- Pages that grew only where an entry touches them, and then where its header does, grew only where the entry does.
+-- Pages that grew only if an entry touches them, and then where its header does, grew only if the entry does.
 pub header_grows : (rings : QueueOf) (n len at size : ℕ) (old now new : List ℕ) → at ≡ header_offset rings.plan rings.side rings.queue n → size ≡ header_bytes rings.plan
     → PagesGrow (TouchesEntry rings n len) old now → PagesGrow (TouchesRange rings at size) now new → PagesGrow (TouchesEntry rings n len) old new
 header_grows rings n len at size old now new is_at is_size so_far grow =
@@ -101,14 +101,14 @@ entry_promised rings n len slot at size now new is_slot is_at is_size payload gr
 
 -- The entries of a frame, one after the other
 
--- Pages that grew only where entries touch them, and then where one of these does, grew only where they all do.
+-- Pages that grew only if entries touch them, and then where one of these does, grew only if they all do.
 pub entries_grow : (rings : QueueOf) (from n k len : ℕ) (entries : List Entry) (old now new : List ℕ) → n ≡ from + k → k < length entries → len ≡ length (bytes_of (entry_at entries k))
     → PagesGrow (TouchesEntries rings from entries) old now → PagesGrow (TouchesEntry rings n len) now new → PagesGrow (TouchesEntries rings from entries) old new
 entries_grow rings from n k len entries old now new is_n among is_len so_far grow =
     grows_further (TouchesEntries rings from entries) (TouchesEntry rings n len) old now new so_far grow
     (λ page touch. (k, among, subst (λ len. TouchesEntry rings (from + k) len page) is_len (subst (λ n. TouchesEntry rings n len page) is_n touch)))
 
--- Where the entries before place k were promised, and then the one at k is, all up to k are promised.
+-- If the entries before place k were promised, and then the one at k is, all up to k are promised.
 pub entries_promised : (rings : QueueOf) (from n k len : ℕ) (entries : List Entry) (now new : List ℕ) → n ≡ from + k → len ≡ length (bytes_of (entry_at entries k))
     → ((j : ℕ) → j < k → IsEntryPromised rings (from + j) (length (bytes_of (entry_at entries j))) now) → PagesGrow (TouchesEntry rings n len) now new → IsEntryPromised rings n len new
     → (j : ℕ) → j < k + 1 → IsEntryPromised rings (from + j) (length (bytes_of (entry_at entries j))) new

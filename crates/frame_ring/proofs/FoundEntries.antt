@@ -21,7 +21,7 @@ pub pages_same : (bridge : Bridge) (side : Side) → bridge ≡ with_pages bridg
 pages_same bridge A = refl
 pages_same bridge B = refl
 
--- Where pages of a side's peer alone were promised, the side's own are as they were.
+-- If pages of a side's peer alone were promised, the side's own are as they were.
 pub own_still : (pair mid : Bridge) (side : Side) → mid ≡ with_pages pair (other_side side) (pages_of mid (other_side side)) → pages_of mid side ≡ pages_of pair side
 own_still pair mid side grown = ap (λ (bridge : Bridge). pages_of bridge side) grown ∙ side_pages pair side (pages_of mid (other_side side))
 
@@ -62,8 +62,7 @@ no_more port receiving same =
     let none : 0 ≡ unused_of port - unused_of port = omega arith in
     none ∙ ap (λ (receiving : Receiving). unused_of (with_receiving port receiving) - unused_of port) (sym same)
 
--- Where the port stands at the entry, its unused promises grow by the room for the entry's index write, and else by
--- none.
+-- If the port stands at the entry, its unused promises grow by the room for the entry's index write, and else by none.
 pub found_grown : {X E : Type 0} (result : Result X E) (port : PortState) (found receiving : Receiving) (pair mid last new : Bridge) → is_idle port.receiving.phase ≡ true → is_idle found.phase ≡ false
     → mid ≡ with_pages pair (other_side port.side) (pages_of mid (other_side port.side)) → last ≡ with_pages mid port.side (pages_of last port.side)
     → OnOk result (receiving ≡ found) → OnErr result (receiving ≡ port.receiving) → OnOk result (new ≡ with_room last port.side 1) → OnErr result (new ≡ last)

@@ -26,7 +26,7 @@ not_idle Copying other = refl
 not_idle Copied other = refl
 not_idle Cleared other = refl
 
--- Where the receiver isn't idle, a look is out of turn and leaves the port as it was.
+-- If the receiver isn't idle, a look is out of turn and leaves the port as it was.
 pub out_of_turn : (port : PortState) (bridge : Bridge) → is_idle port.receiving.phase ≡ false → (OutOfTurn ≡ look_answer port bridge) × (port ≡ after_look port bridge)
 out_of_turn port bridge busy = (rw busy refl, rw busy refl)
 
@@ -60,7 +60,7 @@ leaves_where sizes header receiving gathered own number len false false false fa
     let same : len ≡ header.len = cc e in
     ap (λ (size : ℕ). record receiving { phase = Copying; part = 0; len = size; left = header.left }) same
 
--- A look that comes to ready leaves the receiver at that entry, with as many entries after it as its header says.
+-- A look that is answered ready leaves the receiver at that entry, with as many entries after it as its header says.
 pub stands_at : (port : PortState) (bridge : Bridge) (number len left : ℕ) → is_idle port.receiving.phase ≡ true → Ready number len ≡ look_found port.receiving (found_seen port bridge)
     → left ≡ (header_in port.plan (bytes_seen bridge) port.side port.queue port.receiving.got).left
     → with_receiving port (record port.receiving { phase = Copying; part = 0; len = len; left = left }) ≡ after_look port bridge

@@ -34,7 +34,7 @@ begin_told port bridge frame len number is_len ok =
 pub down_told : (port : PortState) (bridge : Bridge) (number : ℕ) → BegunOk number ≡ down_answer port bridge → down_answer port bridge ≡ BegunOk port.sending.told
 down_told port bridge number ok = told_by_down (head_seen port) (index_word_seen port bridge) port.sending.told number (is_busy port.sending) (nat_lt (free_seen port bridge) 1) ok
 
--- Where a begin is ok, pages that grow only by the frame's writes grow only by what the begin may promise.
+-- If a begin is ok, pages that grow only by the frame's writes grow only by what the begin may promise.
 pub begin_touches : (port : PortState) (bridge : Bridge) (frame : List ℕ) (len number : ℕ) (old new : List ℕ) → len ≡ length frame → BegunOk number ≡ begin_answer port bridge len
     → PagesGrow (TouchesLeft port.plan port.side (writes_left (frame_begun port frame))) old new → PagesGrow (TouchedByBegin port bridge frame) old new
 begin_touches port bridge frame len number old new is_len ok grow =
@@ -42,7 +42,7 @@ begin_touches port bridge frame len number old new is_len ok grow =
     grows_further (TouchedByBegin port bridge frame) (TouchesLeft port.plan port.side (writes_left (frame_begun port frame))) old old new (grows_nothing (TouchedByBegin port bridge frame) old) grow
     (λ page touch. (told, touch))
 
--- Where a going down is ok, pages that grow only by its entry's writes grow only by what the call may promise.
+-- If a going down is ok, pages that grow only by its entry's writes grow only by what the call may promise.
 pub down_touches : (port : PortState) (bridge : Bridge) (number : ℕ) (old new : List ℕ) → BegunOk number ≡ down_answer port bridge
     → PagesGrow (TouchesLeft port.plan port.side (writes_left (down_begun port))) old new → PagesGrow (TouchedByDown port bridge) old new
 down_touches port bridge number old new ok grow =

@@ -19,7 +19,7 @@ moves_by : (queue begun told : ℕ) (entry old : Entry) (todo : List Label) (wai
     ≡ record { begun = begun + 1; told = told; entry = entry; todo = labels_of queue begun entry; waiting = others }
 moves_by queue begun told entry old todo waiting others e more = rw (e, more) refl
 
--- Where all writes of an entry are posted and another of its frame follows, that one is begun, at its first write.
+-- If all writes of an entry are posted and another of its frame follows, that one is begun, at its first write.
 pub next_moves : (entries : List Entry) (queue piece next begun told : ℕ) → piece + 1 < length entries → writes_in (entry_at entries piece) ≤ next
     → progress_at queue entries (piece + 1) 0 (begun + 1) told ≡ next_begun queue (progress_at queue entries piece next begun told)
 next_moves entries queue piece next begun told more all =
@@ -80,7 +80,7 @@ one_is_left entries queue n piece next left among some all moved more =
     at_lists [] (entry ∷ waiting) len e moved = absurd (let h = moved refl in cc h)
     at_lists (label ∷ todo) waiting len e moved = omega arith
 
--- Where more of a frame is left after it, posting a write takes the sender one write further in the same entry.
+-- If more of a frame is left after it, posting a write takes the sender one write further in the same entry.
 pub posted_more : (entries : List Entry) (queue piece next begun told left : ℕ) → piece < length entries → next < writes_in (entry_at entries piece)
     → left + (next + 1) ≡ all_writes_in (drop piece entries) → 0 < left
     → progress_at queue entries piece (next + 1) begun told

@@ -39,7 +39,7 @@ begun_writes queue told sending (entry ∷ entries) some =
     let n : sending.begun + 1 ≡ suc sending.begun = omega arith in
     ap (λ n. left_of_entry entry (labels_of queue sending.begun entry) ++ writes_from queue n entries) n
 
--- Where a sender with nothing left begins entries, its port's unused promises grow by the writes that these take.
+-- If a sender with nothing left begins entries, its port's unused promises grow by the writes that these take.
 pub unused_more : (port : PortState) (after : Sending) (entries : List Entry) → is_busy port.sending ≡ false
     → left_of_entry after.entry after.todo ++ writes_from port.queue after.begun after.waiting ≡ writes_from port.queue port.sending.begun entries
     → unused_of (with_sending port after) - unused_of port ≡ all_writes_in entries
@@ -78,7 +78,7 @@ none_waits sending idle = at_lists sending.todo sending.waiting idle where
   at_lists [] (x ∷ xs) e = absurd (cc e)
   at_lists (x ∷ xs) (y ∷ ys) e = absurd (cc e)
 
--- Pages that grow only where entries touch them grow only where the writes of these entries touch them.
+-- Pages that grow only if entries touch them grow only if the writes of these entries touch them.
 pub begun_grows : (rings : QueueOf) (from begun : ℕ) (entries : List Entry) (lefts : List Left) (old new : List ℕ) → from ≡ begun → lefts ≡ writes_from rings.queue begun entries
     → PagesGrow (TouchesEntries rings from entries) old new → PagesGrow (TouchesLeft rings.plan rings.side lefts) old new
 begun_grows rings from begun entries lefts old new is_from is grow =
@@ -95,19 +95,19 @@ rest_is pair mid new side count more pages room is_count =
     ∙ ap (λ pages. with_room (with_pages pair (other_side side) pages) side count) same
     ∙ ap (with_room (with_pages pair (other_side side) (pages_of new (other_side side))) side) is_count
 
--- Where pages of a side's peer were promised and no room, they are all that was promised.
+-- If pages of a side's peer were promised and no room, they are all that was promised.
 pub rest_kept : (pair mid new : Bridge) (side : Side) (more : ℕ) → mid ≡ with_pages pair (other_side side) (pages_of mid (other_side side)) → new ≡ mid → more ≡ 0
     → new ≡ with_room (with_pages pair (other_side side) (pages_of new (other_side side))) side more
 rest_kept pair mid new side more pages same none = rest_is pair mid new side 0 more pages (same ∙ sym (no_room mid side)) (sym none)
 
--- Pages that grow only where an entry touches them grow only where the list of that entry alone touches them.
+-- Pages that grow only if an entry touches them grow only if the list of that entry alone touches them.
 pub one_grows : (rings : QueueOf) (n : ℕ) (entry : Entry) (old new : List ℕ) → PagesGrow (TouchesEntry rings n (length (bytes_of entry))) old new → PagesGrow (TouchesEntries rings n (entry ∷ [])) old new
 one_grows rings n entry old new grow =
     let first : n ≡ n + 0 = omega arith in
     grows_further (TouchesEntries rings n (entry ∷ [])) (TouchesEntry rings n (length (bytes_of entry))) old old new (grows_nothing (TouchesEntries rings n (entry ∷ [])) old) grow
     (λ page touch. (0, omega arith, subst (λ n. TouchesEntry rings n (length (bytes_of entry)) page) first touch))
 
--- Where an entry's pages are promised, so are those of each entry of the list of it alone.
+-- If an entry's pages are promised, so are those of each entry of the list of it alone.
 pub one_promised : (rings : QueueOf) (n : ℕ) (entry : Entry) (pages : List ℕ) → IsEntryPromised rings n (length (bytes_of entry)) pages → (k : ℕ) → k < length (entry ∷ [])
     → IsEntryPromised rings (n + k) (length (bytes_of (entry_at (entry ∷ []) k))) pages
 one_promised rings n entry pages promised zero among = let first : n ≡ n + 0 = omega arith in subst (λ n. IsEntryPromised rings n (length (bytes_of entry)) pages) first promised
@@ -160,7 +160,7 @@ begins_ready port after entries pair mid new count h ready =
 abbrev pub rings_of : PortState → QueueOf
 rings_of port = record { plan = port.plan; side = port.side; queue = port.queue }
 
--- Where a sender isn't busy, no entry waits, so the next entry's number is just the count of those begun.
+-- If a sender isn't busy, no entry waits, so the next entry's number is just the count of those begun.
 pub from_is : (port : PortState) (from : ℕ) → is_busy port.sending ≡ false → from ≡ port.sending.begun + length port.sending.waiting → from ≡ port.sending.begun
 from_is port from idle is = omega (arith, is, none_waits port.sending idle)
 
@@ -189,7 +189,7 @@ frame_begins port frame pair mid new from seen count idle is_from is_seen is_cou
       count_is = is_count ∙ ap (λ largest. all_writes_in (pieces_of largest frame)) is_seen;
     }
 
--- Pages that grow only where a frame's pieces touch them grow only where the writes left after its begin do.
+-- Pages that grow only if a frame's pieces touch them grow only if the writes left after its begin do.
 pub frame_grows : (port : PortState) (frame old new : List ℕ) (from : ℕ) → is_busy port.sending ≡ false → from ≡ port.sending.begun + length port.sending.waiting
     → PagesGrow (TouchesEntries (rings_of port) from (pieces_seen port frame)) old new → PagesGrow (TouchesLeft port.plan port.side (writes_left (frame_begun port frame))) old new
 frame_grows port frame old new from idle is_from grow =
@@ -226,7 +226,7 @@ down_begins port pair mid new from idle is_from pages grow promised room =
       count_is = refl;
     }
 
--- Pages that grow only where a link-down entry touches them grow only where the writes left after its begin do.
+-- Pages that grow only if a link-down entry touches them grow only if the writes left after its begin do.
 pub down_grows : (port : PortState) (old new : List ℕ) (from : ℕ) → is_busy port.sending ≡ false → from ≡ port.sending.begun + length port.sending.waiting
     → PagesGrow (TouchesEntry (rings_of port) from 0) old new → PagesGrow (TouchesLeft port.plan port.side (writes_left (down_begun port))) old new
 down_grows port old new from idle is_from grow =

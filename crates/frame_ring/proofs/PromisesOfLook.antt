@@ -76,7 +76,7 @@ answer_of receiving (AnotherVersion seen own) number len e = absurd (cc e)
 answer_of receiving (TooManyBytes many most) number len e = absurd (cc e)
 answer_of receiving (AnEntry size left) number len e = let same : size ≡ len = cc in ap (Ready receiving.got) same
 
--- An idle receiver's look that comes to ready finds an entry, numbered by the entries taken so far.
+-- An idle receiver's look that is answered ready finds an entry, numbered by the entries taken so far.
 pub finds : (port : PortState) (bridge : Bridge) (found : Found) (number len : ℕ) → is_idle port.receiving.phase ≡ true → found ≡ found_seen port bridge → Ready number len ≡ look_found port.receiving found → FindsEntry port bridge
 finds port bridge found number len idle is ready = (len, rw idle (answer_of port.receiving (found_seen port bridge) number len (ready ∙ ap (look_found port.receiving) is)))
 
@@ -106,14 +106,14 @@ entry_fits port bridge len found = at_phase (is_idle port.receiving.phase) found
       fits_where sizes header port.receiving gathered (version_of port.receiving.got) len _ _ _ _ _ refl e
   at_phase false e = absurd (cc e)
 
--- Where a look finds an entry, pages that grow only by its index write grow only by what the look may promise.
+-- If a look finds an entry, pages that grow only by its index write grow only by what the look may promise.
 pub look_touches : (port : PortState) (bridge : Bridge) (old new : List ℕ) → FindsEntry port bridge
     → PagesGrow (TouchesWrite port.plan port.side (index_write port.plan port.side port.queue port.receiving.got)) old new → PagesGrow (TouchedByLook port bridge) old new
 look_touches port bridge old new finds grow =
     grows_further (TouchedByLook port bridge) (TouchesWrite port.plan port.side (index_write port.plan port.side port.queue port.receiving.got)) old old new (grows_nothing (TouchedByLook port bridge) old) grow
     (λ page touch. (finds, touch))
 
--- Where a look finds an entry, pages that grow only by the entry's flags grow only by what the look may promise.
+-- If a look finds an entry, pages that grow only by the entry's flags grow only by what the look may promise.
 pub flags_touch : (port : PortState) (bridge : Bridge) (old new : List ℕ) → FindsEntry port bridge
     → PagesGrow (Touches (own_header port.plan port.side port.queue port.receiving.got + flags_offset port.plan) 4) old new → PagesGrow (TouchedByFlags port bridge) old new
 flags_touch port bridge old new finds grow =

@@ -202,12 +202,12 @@ post_ready port own peer ready =
       index_word = ready.index_word;
     }
 
--- Where labels are left to post, the write of the first of them is what goes out.
+-- If labels are left to post, the write of the first of them is what goes out.
 pub first_posted_is : (bridge : Bridge) (side : Side) (entry : Entry) (todo : List Label) (label : Label) → Some label ≡ first_label todo → first_posted bridge side entry todo ≡ ring_posted bridge side entry label
 first_posted_is bridge side entry [] label e = absurd (cc e)
 first_posted_is bridge side entry (first ∷ todo) label e = let same : first ≡ label = cc in ap (ring_posted bridge side entry) same
 
--- Where no label is left to post, nothing goes out, and the bridge is as it was.
+-- If no label is left to post, nothing goes out, and the bridge is as it was.
 pub none_posted_is : (bridge : Bridge) (side : Side) (entry : Entry) (todo : List Label) → None ≡ first_label todo → first_posted bridge side entry todo ≡ bridge
 none_posted_is bridge side entry [] e = refl
 none_posted_is bridge side entry (first ∷ todo) e = absurd (cc e)

@@ -1,4 +1,4 @@
--- Two frames have the same entries from two pieces on exactly where they have the same bytes from there on.
+-- Two frames have the same entries from two pieces on if and only if they have the same bytes from there on.
 use Rattle.std.proofs.Common.{◌≡◌, ◌↔◌, ◌∙◌, ℕ, zero, suc, ◌+◌, ◌-◌, ◌*◌, ◌/◌, ◌<◌, ◌≤◌, Option, Some, None, List, [], ◌∷◌, ◌++◌, length, take, drop, refl, sym, ap, subst, arith, mod-lt}
 use Rattle.std.proofs.Math.Nat.{add-mul-div_left, div-add-mod, mul-suc}
 use Rattle.std.proofs.lemmas.Nat.{mul-le}
@@ -9,7 +9,7 @@ use Rattle.pair_model.specs.Sizes.{pieces_in}
 use Rattle.frame_ring.specs.Outgoing.{entries_under, entry_at}
 use Rattle.frame_ring.proofs.Entries.{length-pieces_of, piece_at}
 
--- so many pieces of these bytes
+-- this many pieces of these bytes
 abbrev pieces_over : ℕ → List ℕ → ℕ → List Entry
 pieces_over largest rest zero = []
 pieces_over largest rest (suc more) = Carries (take largest rest) more ∷ pieces_over largest (drop largest rest) more

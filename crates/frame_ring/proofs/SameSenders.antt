@@ -1,5 +1,5 @@
--- Two senders of one queue are the same exactly where their counts, the next write and the entries from the one at hand
--- on are.
+-- Two senders of one queue are the same if and only if their counts, the next write and the entries from the one at
+-- hand on are.
 use Rattle.std.proofs.Common.{◌≡◌, ◌∙◌, ◌+◌, ◌-◌, ◌<◌, ◌==◌, ◌||◌, Bool, true, false, not, None, List, [], ◌∷◌, length, drop, refl, sym, ap, subst, arith}
 use Rattle.std.proofs.lemmas.Bool.Decides.{nat_tests}
 use Rattle.std.proofs.lemmas.List.{drop_more}

@@ -108,7 +108,7 @@ last_ready rings n entry carries pages promised (suc (suc zero)) d within = flag
 last_ready rings n entry carries pages promised (suc (suc (suc zero))) d within = tt
 last_ready rings n entry carries pages promised (suc (suc (suc (suc k)))) d within = absurd (omega (arith, within))
 
--- Where an entry's payload and header are promised at the peer, each of its writes is ready to land there.
+-- If an entry's payload and header are promised at the peer, each of its writes is ready to land there.
 pub entry_ready : (rings : QueueOf) (n : ℕ) (entry : Entry) (pages : List ℕ) → IsEntryPromised rings n (length (bytes_of entry)) pages
     → All (IsLeftReady rings.plan rings.side pages) (left_of_entry entry (labels_of rings.queue n entry))
 entry_ready rings n entry pages promised =

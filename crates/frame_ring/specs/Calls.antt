@@ -47,11 +47,11 @@ free_seen port bridge = free_in_memory (sizes_seen port).entries (head_seen port
 abbrev pub free_answer : PortState → Bridge → ℕ
 free_answer port bridge = if nat_le (own_index_word port.plan port.side port.queue + 4) (memory_size port.plan port.side) then free_seen port bridge else 0
 
--- whether a frame of so many bytes is refused whatever room there is
+-- whether a frame of this many bytes is refused whatever room there is
 abbrev pub refuses_answer : PortState → ℕ → Bool
 refuses_answer port len = nat_lt (sizes_seen port).most len || is_busy port.sending
 
--- where so many entries are wanted
+-- where this many entries are wanted
 abbrev pub unless_full : PortState → Bridge → ℕ → Begun → Begun
 unless_full port bridge needed later =
     if nat_lt (free_seen port bridge) needed then NoRoom (head_seen port) (index_word_seen port bridge) else later
@@ -59,13 +59,13 @@ unless_full port bridge needed later =
 abbrev pub room_answer : PortState → Bridge → ℕ → Begun
 room_answer port bridge needed = unless_full port bridge needed (BegunOk port.sending.told)
 
--- the port's tests of a beginning that takes so many entries
+-- the port's tests of a beginning that takes this many entries
 abbrev pub entry_tests : PortState → Bridge → ℕ → Test → Begun → Begun
 entry_tests port bridge needed OfBusy later = if is_busy port.sending then Busy else later
 entry_tests port bridge needed OfRoom later = unless_full port bridge needed later
 entry_tests port bridge needed test later = later
 
--- and those of a frame of so many bytes
+-- and those of a frame of this many bytes
 abbrev pub frame_tests : PortState → Bridge → ℕ → Test → Begun → Begun
 frame_tests port bridge len OfLength later = if nat_lt (sizes_seen port).most len then TooLong len (sizes_seen port).most else later
 frame_tests port bridge len test later = entry_tests port bridge (pieces_in (sizes_seen port).largest len) test later
@@ -76,7 +76,7 @@ begin_answer port bridge len = in_begin_order (frame_tests port bridge len) (Beg
 abbrev pub down_answer : PortState → Bridge → Begun
 down_answer port bridge = in_begin_order (entry_tests port bridge 1) (BegunOk port.sending.told)
 
--- a frame of so many bytes is begun, and not refused
+-- a frame of this many bytes is begun, and not refused
 abbrev pub BeginsFrame : PortState → Bridge → ℕ → Type 0
 BeginsFrame port bridge len = (number : ℕ) × (begin_answer port bridge len ≡ BegunOk number)
 
@@ -156,7 +156,7 @@ entry_found receiving found = receiving
 abbrev pub after_look : PortState → Bridge → PortState
 after_look port bridge = if is_idle port.receiving.phase then with_receiving port (entry_found port.receiving (found_seen port bridge)) else port
 
--- the bytes of the frame under way with the next part of the entry at hand, as it stands in memory
+-- the bytes of the frame under way with the next part of the entry at hand, as it is in memory
 abbrev pub gathered_next : PortState → Bridge → List ℕ
 gathered_next port bridge =
     port.receiving.gathered

@@ -98,7 +98,7 @@ abbrev pub carries_bytes : Entry → Bool
 carries_bytes (Carries bytes left) = true
 carries_bytes GoesDown = false
 
--- the label of write `next` of an entry of so many chunks
+-- the label of write `next` of an entry of this many chunks
 abbrev pub label_by : ℕ → ℕ → ℕ → Bool → ℕ → Option Label
 label_by queue n chunks carries next =
     if nat_lt next chunks then Some (Chunk queue n next)

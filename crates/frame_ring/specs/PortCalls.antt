@@ -1,5 +1,5 @@
--- What each call of a port comes to: its contract, over the port and the pair before and after it. `early` and `late`
--- are the pair as the call begins and ends. A call that only reads the pair has it once, as `bridge`.
+-- The contract of each call of a port, over the port and the pair before and after it. `early` and `late` are the pair
+-- as the call begins and ends. A call that only reads the pair has it once, as `bridge`.
 use Rattle.std.specs.Prelude.{◌≡◌, ℕ, ◌+◌, ◌-◌, List, Option, length, IfOk, IsSome, OnErr, OnOk, Result}
 use Rattle.step_kinds.specs.Sides.{other_side}
 use Rattle.step_kinds.specs.declared.lanes.Begun.{Begun}
@@ -58,7 +58,7 @@ pub record HasBegun {E : Type 0} (old new : PortState) (early late : Bridge) (fr
   pub after : OnOk result (new ≡ after_begin old early frame)
   -- out of memory leaves the port as it was
   pub err : OnErr result (new ≡ old)
-  -- and comes only where the frame was to be begun
+  -- and comes only if the frame was to be begun
   pub wants : OnErr result (begin_answer old early (length frame) ≡ BegunOk old.sending.told)
   -- the pages and the room of its writes are promised
   pub promises : HasPromised (TouchedByBegin old early frame) old new early late result
@@ -83,7 +83,7 @@ pub record HasGoneDown {E : Type 0} (old new : PortState) (early late : Bridge) 
   pub after : OnOk result (new ≡ after_down old early)
   -- out of memory leaves the port as it was
   pub err : OnErr result (new ≡ old)
-  -- and comes only where the entry was to be begun
+  -- and comes only if the entry was to be begun
   pub wants : OnErr result (down_answer old early ≡ BegunOk old.sending.told)
   -- the pages and the room of its writes are promised
   pub promises : HasPromised (TouchedByDown old early) old new early late result
@@ -110,7 +110,7 @@ pub record HasLooked {E : Type 0} (old new : PortState) (early late : Bridge) (r
   pub after : OnOk result (new ≡ after_look old early)
   -- out of memory leaves the port as it was
   pub err : OnErr result (new ≡ old)
-  -- and comes only where an entry is found
+  -- and comes only if an entry is found
   pub wants : OnErr result (FindsEntry old early)
   -- the pages and the room to take the entry and to give it back are promised
   pub promises : HasPromisedBoth (TouchedByLook old early) (TouchedByFlags old early) old new early late result
@@ -129,7 +129,7 @@ pub record HasFound {X E : Type 0} (old new : PortState) (early late : Bridge) (
 pub record HasCopied (old new : PortState) (bridge : Bridge) (result : LaneCopy) : Type 0 where
   -- the answer is the next part of the entry at hand, or the whole frame with its last part
   pub answer : result ≡ copy_answer old bridge
-  -- the part is gathered, as it stands in memory
+  -- the part is gathered, as it is in memory
   pub after : new ≡ after_copy old bridge
   -- all pages that the port needs are promised, if they were before
   pub ready : HasPagesIn old bridge → HasPagesIn new bridge
@@ -138,7 +138,7 @@ pub record HasCopied (old new : PortState) (bridge : Bridge) (result : LaneCopy)
 pub record IsDue {E : Type 0} (port : PortState) (bridge : Bridge) (result : Result (Option (List ℕ)) E) : Type 0 where
   -- the frame, if that copy delivers one
   pub value : IfOk result (λ due. due ≡ frame_due port bridge)
-  -- out of memory comes only where it does
+  -- out of memory comes only if it does
   pub wants : OnErr result (IsSome (frame_due port bridge))
 
 pub record HasCleared (old new : PortState) (early late : Bridge) (result : Option ℕ) : Type 0 where

@@ -106,7 +106,7 @@ TouchesLeft plan side lefts page = Any (λ (left : Left). TouchesOf plan side pa
 
 -- Room
 
--- the bridge with room promised for so many more writes of a side
+-- the bridge with room promised for this many more writes of a side
 abbrev pub with_room : Bridge → Side → ℕ → Bridge
 with_room bridge side more = with_flight bridge side (promised (flight_of bridge side) more)
 

@@ -14,14 +14,14 @@ use Rattle.frame_ring.specs.PortView.{reaches}
 abbrev pub ReachesPeer : QueueOf → Type 0
 ReachesPeer rings = reaches rings.plan rings.side (window_of (layout_of rings.plan rings.side rings.queue)) ≡ true
 
--- so many bytes from an offset of that window on
+-- this many bytes from an offset of that window on
 abbrev pub TouchesRange : QueueOf → ℕ → ℕ → ℕ → Type 0
 TouchesRange rings offset len page = ReachesPeer rings × Touches (queue_address rings.plan rings.side rings.queue offset) len page
 
 abbrev pub IsRangePromised : QueueOf → ℕ → ℕ → List ℕ → Type 0
 IsRangePromised rings offset len pages = ReachesPeer rings → ArePromised (queue_address rings.plan rings.side rings.queue offset) len pages
 
--- entry n with so many bytes: its payload and its header
+-- entry n with this many bytes: its payload and its header
 abbrev pub TouchesEntry : QueueOf → ℕ → ℕ → ℕ → Type 0
 TouchesEntry rings n len page =
     TouchesRange rings (slot_offset rings.plan rings.side rings.queue n) len page

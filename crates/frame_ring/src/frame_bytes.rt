@@ -36,7 +36,7 @@ impl Gathered {
     ///
     /// # Errors
     ///
-    /// [`AllocError`] from out of memory alone.
+    /// [`AllocError`] if memory runs out.
     pub fn copy_of(&self, alloc: Global) -> Result<Gathered, AllocError>
         ensures { IfOk result (λ copy. copy ≡ self.now) }
     {

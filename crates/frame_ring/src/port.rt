@@ -68,8 +68,8 @@ impl Port {
         }
     }
 
-    /// Begins a frame, of one byte at least: as one entry, or on version 5 as so many as its bytes fill. Room for all
-    /// its writes is promised, and the pages that they write to.
+    /// Begins a frame, of one byte at least: as one entry, or on version 5 as many as its bytes fill. Room for all its
+    /// writes is promised, and the pages that they write to.
     ///
     /// It is refused for one of three reasons, tested in this order. A refusal changes nothing and drops the frame.
     ///
@@ -80,8 +80,8 @@ impl Port {
     ///
     /// # Errors
     ///
-    /// [`AllocError`] from out of memory, or where the session would have more than 2^62 entries. It comes only where
-    /// the frame was to be begun and is not refused. The port is as it was, and of the pair nothing but pages that this
+    /// [`AllocError`] from out of memory, or where the session would have more than 2^62 entries. It comes only if the
+    /// frame was to be begun and is not refused. The port is as it was, and of the pair nothing but pages that this
     /// frame needs may have become promised.
     pub fn begin(&mut self, pair: &mut Pair, frame: Frame) -> Result<Begun, AllocError>
         requires some { 0 < length frame }
@@ -98,7 +98,7 @@ impl Port {
         }
     }
 
-    /// Begins a frame to which [`Port::begin_answer`] answers [`Begun::Ok`], as [`Port::begin`] does, and answers its
+    /// Begins a frame to which [`Port::begin_answer`] answers [`Begun::Ok`], as [`Port::begin`] does, and returns its
     /// number. Nothing is tested again.
     ///
     /// # Errors
@@ -122,8 +122,8 @@ impl Port {
     ///
     /// # Errors
     ///
-    /// [`AllocError`] from out of memory, or where the session would have more than 2^62 entries. It comes only where
-    /// the entry was to be begun and is not refused. The port is as it was, and of the pair nothing but pages that this
+    /// [`AllocError`] from out of memory, or where the session would have more than 2^62 entries. It comes only if the
+    /// entry was to be begun and is not refused. The port is as it was, and of the pair nothing but pages that this
     /// entry needs may have become promised.
     pub fn down(&mut self, pair: &mut Pair) -> Result<Begun, AllocError>
         requires plan { pair.old.plan ≡ self.old.plan }
@@ -139,9 +139,9 @@ impl Port {
         }
     }
 
-    /// Posts the next write that is left, and answers its label; `None` exactly where none is left. Where the link
-    /// isn't up the write is lost, and so is one through a window that the peer lacks, which only a raw pair can have.
-    /// It takes no memory.
+    /// Posts the next write that is left, and returns its label; `None` if and only if none is left. If the link isn't
+    /// up the write is lost, and so is one through a window that the peer lacks, which only a raw pair can have. It
+    /// takes no memory.
     pub fn post(&mut self, pair: &mut Pair) -> Option<Label>
         requires plan { pair.old.plan ≡ self.old.plan }
         requires room { HasRoomIn self.old pair.old }
@@ -167,7 +167,7 @@ impl Port {
     ///
     /// # Errors
     ///
-    /// [`AllocError`] from out of memory, or where the session has 2^62 entries before this one. It comes only where an
+    /// [`AllocError`] from out of memory, or where the session has 2^62 entries before this one. It comes only if an
     /// entry was found. The port is as it was, and of the pair nothing but pages that this entry needs may have become
     /// promised.
     pub fn look(&mut self, pair: &mut Pair) -> Result<RingLook, AllocError>
@@ -206,11 +206,11 @@ impl Port {
         self.stand_at(pair, len, left)
     }
 
-    /// Copies the next part of the entry at hand, as it stands in the side's memory: 128 bytes, or the rest. With the
-    /// last part of a frame's last entry the whole frame is delivered; an entry without bytes takes one copy. It takes
-    /// no memory.
+    /// Copies the next part of the entry at hand, as it is in the side's memory: 128 bytes, or the rest. With the last
+    /// part of a frame's last entry the whole frame is delivered; an entry without bytes takes one copy. It takes no
+    /// memory.
     ///
-    /// [`LaneCopy::OutOfTurn`] comes exactly where no entry is being copied, and changes nothing.
+    /// [`LaneCopy::OutOfTurn`] is returned if and only if no entry is being copied, and changes nothing.
     pub fn copy(&mut self, pair: &Pair) -> LaneCopy
         requires { pair.now.plan ≡ self.old.plan }
         ensures { HasCopied self.old self.new pair.now result }
@@ -229,7 +229,7 @@ impl Port {
     ///
     /// # Errors
     ///
-    /// [`AllocError`] from out of memory alone, and only where there is such a frame.
+    /// [`AllocError`] if memory runs out, and only if there is such a frame.
     pub fn frame_due(&self, alloc: Global, pair: &Pair) -> Result<Option<Frame>, AllocError>
         requires { pair.now.plan ≡ self.now.plan }
         ensures { IsDue self.now pair.now result }
@@ -243,8 +243,8 @@ impl Port {
         self.receiver.frame_due(alloc, pair, side, at)
     }
 
-    /// Zeroes the flags of the entry that was copied, in the side's own memory, and answers its number; `None` exactly
-    /// where none was. It takes no memory.
+    /// Zeroes the flags of the entry that was copied, in the side's own memory, and returns its number; `None` if and
+    /// only if none was. It takes no memory.
     pub fn clear(&mut self, pair: &mut Pair) -> Option<u64>
         requires plan { pair.old.plan ≡ self.old.plan }
         requires pages { HasPagesIn self.old pair.old }
@@ -259,8 +259,8 @@ impl Port {
         Some(number)
     }
 
-    /// Gives the entry that was cleared back: posts the index write that names its slot, and answers its number; `None`
-    /// exactly where none was cleared. It takes no memory.
+    /// Gives the entry that was cleared back: posts the index write that names its slot, and returns its number; `None`
+    /// if and only if none was cleared. It takes no memory.
     pub fn ack(&mut self, pair: &mut Pair) -> Option<u64>
         requires plan { pair.old.plan ≡ self.old.plan }
         requires room { HasRoomIn self.old pair.old }
@@ -308,7 +308,7 @@ impl Port {
     ///
     /// # Errors
     ///
-    /// [`AllocError`] from out of memory alone.
+    /// [`AllocError`] if memory runs out.
     pub fn copy_of(&self, alloc: Global) -> Result<Port, AllocError>
         ensures { IfOk result (λ copy. copy ≡ self.now) }
     {
@@ -411,7 +411,7 @@ impl Port {
         self.room_answer(pair, 1)
     }
 
-    // What is answered where so many entries are wanted.
+    // What is answered where this many entries are wanted.
     fn room_answer(&self, pair: &Pair, needed: u32) -> Begun
         requires plan { pair.now.plan ≡ self.now.plan }
         requires fit { SizesFit self.now.plan }

@@ -26,8 +26,8 @@ use std::alloc::AllocError;
 use step_kinds::Frame;
 
 impl QueueRings {
-    /// Promises the pages of so many bytes at the peer, from an offset of the queue's window on, where the peer has the
-    /// window. The only error is running out of memory. Some of these pages may then be promised, and nothing else
+    /// Promises the pages of this many bytes at the peer, from an offset of the queue's window on, where the peer has
+    /// the window. Returns an error if memory runs out. Some of these pages may then be promised, and nothing else
     /// changes.
     pub fn promise_bytes(&self, pair: &mut Pair, offset: u64, len: u64) -> Result<(), AllocError>
         requires plan { pair.old.plan ≡ self.now.plan }
@@ -46,7 +46,7 @@ impl QueueRings {
         pair.promise_range(peer, at, len)
     }
 
-    /// Promises the pages of entry `n`, which has so many bytes, at the peer. The only error is running out of memory.
+    /// Promises the pages of entry `n`, which has this many bytes, at the peer. Returns an error if memory runs out.
     /// Some of these pages may then be promised, and nothing else changes.
     pub fn promise_entry(&self, pair: &mut Pair, n: u64, len: u64) -> Result<(), AllocError>
         requires plan { pair.old.plan ≡ self.now.plan }
@@ -61,8 +61,8 @@ impl QueueRings {
         self.promise_bytes(pair, header_offset_of(self, n), header)
     }
 
-    /// Promises the pages of all entries of a frame, the first of which has the number `from`, at the peer. The only
-    /// error is running out of memory. Some of these pages may then be promised, and nothing else changes.
+    /// Promises the pages of all entries of a frame, the first of which has the number `from`, at the peer. Returns an
+    /// error if memory runs out. Some of these pages may then be promised, and nothing else changes.
     pub fn promise_frame(&self, pair: &mut Pair, from: u64, frame: &Frame) -> Result<(), AllocError>
         requires plan { pair.old.plan ≡ self.now.plan }
         requires fit { SizesFit self.now.plan }
@@ -79,8 +79,8 @@ impl QueueRings {
         Ok(())
     }
 
-    /// Promises the pages of the index words that the side posts. The only error is running out of memory. Some of
-    /// these pages may then be promised, and nothing else changes.
+    /// Promises the pages of the index words that the side posts. Returns an error if memory runs out. Some of these
+    /// pages may then be promised, and nothing else changes.
     pub fn promise_index_word(&self, pair: &mut Pair) -> Result<(), AllocError>
         requires plan { pair.old.plan ≡ self.now.plan }
         requires fit { SizesFit self.now.plan }
@@ -92,8 +92,8 @@ impl QueueRings {
         self.promise_bytes(pair, offset, 4)
     }
 
-    /// Promises the pages of the flags of the slot in which the side receives entry `n`. The only error is running out
-    /// of memory. Some of these pages may then be promised, and nothing else changes.
+    /// Promises the pages of the flags of the slot in which the side receives entry `n`. Returns an error if memory
+    /// runs out. Some of these pages may then be promised, and nothing else changes.
     pub fn promise_flags(&self, pair: &mut Pair, n: u64) -> Result<(), AllocError>
         requires plan { pair.old.plan ≡ self.now.plan }
         requires fit { SizesFit self.now.plan }

@@ -61,7 +61,7 @@ impl Receiver {
     ///
     /// # Errors
     ///
-    /// [`AllocError`] from out of memory alone.
+    /// [`AllocError`] if memory runs out.
     pub fn copy_of(&self, alloc: Global) -> Result<Receiver, AllocError>
         ensures { IfOk result (λ copy. copy ≡ self.now) }
     {
@@ -215,7 +215,7 @@ impl Receiver {
     ///
     /// # Errors
     ///
-    /// [`AllocError`] from out of memory alone, and only where there is such a frame.
+    /// [`AllocError`] if memory runs out, and only if there is such a frame.
     pub fn frame_due(
         &self,
         alloc: Global,

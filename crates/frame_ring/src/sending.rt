@@ -55,7 +55,7 @@ impl Sender {
     ///
     /// # Errors
     ///
-    /// [`AllocError`] from out of memory alone.
+    /// [`AllocError`] if memory runs out.
     pub fn copy_of(&self, alloc: Global) -> Result<Sender, AllocError>
         ensures { IfOk result (λ copy. copy ≡ self.now) }
     {
@@ -125,7 +125,7 @@ impl Sender {
         self.left
     }
 
-    /// Where all writes of an entry were posted, the next of its frame is begun.
+    /// If all writes of an entry were posted, the next of its frame is begun.
     pub fn advance(&mut self)
         ensures { self.new ≡ with_progress self.old (next_begun self.old.queue self.old.sending) }
     {
@@ -181,7 +181,7 @@ impl Sender {
         }
     }
 
-    /// A frame, which takes so many writes in all, is begun.
+    /// A frame, which takes this many writes in all, is begun.
     pub fn begin(&mut self, frame: Frame, left: usize)
         requires free { not (is_busy_by self.old.sending) ≡ true }
         requires writes { left ≡ all_writes_in (pieces_of self.old.largest frame) }
@@ -224,7 +224,7 @@ impl Model for Sender {
     ghost invariant = { IsSender };
 }
 
-/// Whether numbers are left for so many more entries, and for a frame.
+/// Whether numbers are left for this many more entries, and for a frame.
 pub fn has_numbers(begun: u64, more: u32, told: u64) -> bool
     requires entries { begun ≤ most_numbers }
     requires frames { told ≤ most_numbers }

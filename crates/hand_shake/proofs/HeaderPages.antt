@@ -147,7 +147,7 @@ ring_grows old now side queue new same among so_far next =
     grows_further (TouchesHeader old.plan side (bytes_of old side)) (TouchesHeaderOf now.plan side queue (bytes_of now side)) _ _ _ so_far next
     (λ page touch. (queue, among, seen_again old now side (λ plan bytes. TouchesHeaderOf plan side queue bytes page) same touch))
 
--- Where all headers of the rings before one can be zeroed, and then that one's too, those of all up to it can be.
+-- If all headers of the rings before one can be zeroed, and then that one's too, those of all up to it can be.
 pub ring_ready : (old now : Bridge) (side : Side) (queue : ℕ) (new : List ℕ) → now ≡ with_pages old side (pages_of now side)
     → ((k : ℕ) → k < queue → AreHeadersOfReady old.plan side k (bytes_of old side) (pages_of now side)) → PagesGrow (TouchesHeaderOf now.plan side queue (bytes_of now side)) (pages_of now side) new
     → AreHeadersOfReady now.plan side queue (bytes_of now side) new → (k : ℕ) → k < queue + 1 → AreHeadersOfReady old.plan side k (bytes_of old side) new
@@ -191,7 +191,7 @@ zeros_of plan len is_len = take-replicate len 16 0 (omega (arith, few_bytes plan
 pub zeros_size : (plan : PairPlan) (len : ℕ) → len ≡ header_bytes plan → length (take len (replicate {A = ℕ} 16 0)) ≡ header_bytes plan
 zeros_size plan len is_len = ap length (zeros_of plan len is_len) ∙ length-replicate (header_bytes plan) 0
 
--- Where a header's pages are promised, those of the zeros that are written over it are.
+-- If a header's pages are promised, those of the zeros that are written over it are.
 pub zeros_promised : (plan : PairPlan) (at from len : ℕ) (pages : List ℕ) → from ≡ at → len ≡ header_bytes plan → ArePromised at (header_bytes plan) pages
     → ArePromised from (length (take len (replicate {A = ℕ} 16 0))) pages
 zeros_promised plan at from len pages is_from is_len promised page touch =

@@ -38,7 +38,7 @@ zero_told : (room at len : ℕ) (mem read : List ℕ) (test : Bool) → len ≤ 
 zero_told room at len mem read true few within is_read told = (λ yes. read_zero room at len mem read few within is_read (same_text _ _ told), λ zero. refl)
 zero_told room at len mem read false few within is_read told = (λ no. absurd (cc no), λ zero. absurd (other_text _ _ told (zero_read room at len mem read few within is_read zero)))
 
--- what a test says of the bytes that were read into the front of so many zeros
+-- what a test says of the bytes that were read into the front of this many zeros
 pub zeros_told : (room at len from count : ℕ) (mem read : List ℕ) (test : Bool) → from ≡ at → count ≡ len → len ≤ room → at + len ≤ length mem → read ≡ bytes_at from (length (take count (replicate {A = ℕ} room 0))) mem
     → test ≡ pointwise nat_eq (read ++ drop count (replicate room 0)) (replicate room 0) → (IsTrue test → AreZero at len mem) × (AreZero at len mem → IsTrue test)
 zeros_told room at len from count mem read test is_from is_count few within is_read told =

@@ -1,4 +1,4 @@
--- Checking: a side compares the peer's offer, as it stands in the side's own scratchpads, with its own numbers.
+-- Checking: a side compares the peer's offer, as it is in the side's own scratchpads, with its own numbers.
 use Rattle.std.specs.Prelude.{◌≡◌, ℕ, ◌==◌, ◌⊎◌, not, true, Option, Some, None, List, ◌++◌, slice_index, if◌then◌else◌}
 use Rattle.pair_model.specs.Link.{is_up}
 use Rattle.pair_model.specs.FreshRings.{fresh_index_words, zeroed_headers}

@@ -47,7 +47,7 @@ AreHeadersReady plan side bytes pages = (queue : ℕ) → queue < (side_plan pla
 abbrev pub AreRingsReady : PairPlan → Side → List ℕ → List ℕ → Type 0
 AreRingsReady plan side bytes pages = AreHeadersReady plan side bytes pages × AreIndexWordsPromised plan side pages
 
--- zeros for so many headers of one queue's ring from one on, and for all of them
+-- zeros for this many headers of one queue's ring from one on, and for all of them
 abbrev pub some_stores : PairPlan → Side → ℕ → ℕ → ℕ → List Store
 some_stores plan side queue from count = map (zeroed_header plan side queue) (count_from from count)
 

@@ -26,8 +26,8 @@ const QUEUES_PAD: u32 = 2;
 
 const WINDOWS_PAD: u32 = 3;
 
-/// A side reads the peer's offer in its own scratchpads. Where it agrees with the side's own numbers, the side is up.
-/// It then zeroes all headers of the rings that it receives in, so that no old flag is taken for an entry. It also sets
+/// A side reads the peer's offer in its own scratchpads. If it agrees with the side's own numbers, the side is up. It
+/// then zeroes all headers of the rings that it receives in, so that no old flag is taken for an entry. It also sets
 /// its index words to say that no entry is taken. Versions that differ agree where both are 4 at least.
 ///
 /// Where the answer would be [`CheckAnswer::Up`], the windows that the peer's plan has fit those that the side's memory
@@ -35,8 +35,8 @@ const WINDOWS_PAD: u32 = 3;
 ///
 /// # Errors
 ///
-/// [`AllocError`] only when out of memory, where the side was to come up. Some pages of those that it writes may then
-/// be promised, and nothing else changes. A header that is zero already needs no page.
+/// [`AllocError`] if memory runs out; only if the side was to come up. Some pages of those that it writes may then be
+/// promised, and nothing else changes. A header that is zero already needs no page.
 pub fn check(pair: &mut Pair, side: Side) -> Result<CheckAnswer, AllocError>
     requires { answer_by pair.old side ≡ Up → WindowsFit pair.old.plan side }
     ensures answer { IfOk result (λ answer. answer ≡ answer_by pair.old side) }

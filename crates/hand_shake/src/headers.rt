@@ -23,12 +23,12 @@ use ring_geometry::Geometry;
 use std::alloc::AllocError;
 use step_kinds::{PairPlan, Side};
 
-// The headers whose slots have so many bytes are looked at together, and so are more of them where no page is there.
+// The headers whose slots have this many bytes are looked at together, and so are more of them where no page is there.
 const TOGETHER_BYTES: u32 = 1024;
 
 /// Promises the pages of the headers of the rings that a side receives in, but for headers that are zero already. So a
-/// ring that was never written to takes no memory. The only error is running out of memory, and then some of these
-/// pages may be promised.
+/// ring that was never written to takes no memory. Returns an error if memory runs out, and then some of these pages
+/// may be promised.
 pub fn promise_headers(pair: &mut Pair, side: Side) -> Result<(), AllocError>
     requires { WindowsFit pair.old.plan side }
     ensures grown { OnlyPagesGrow (TouchesHeader pair.old.plan side (bytes_of pair.old side)) side pair.old pair.new }
@@ -188,7 +188,7 @@ fn are_zero(pair: &Pair, side: Side, ring: &Geometry, from: u32, to: u32) -> boo
     }
 }
 
-// Whether each of so many bytes of a side's memory, `MOST` at most, is zero; `MOST` is 1,024 at most.
+// Whether each of this many bytes of a side's memory, `MOST` at most, is zero; `MOST` is 1,024 at most.
 fn is_zero<const MOST: usize>(pair: &Pair, side: Side, at: u64, len: usize) -> bool
     requires within { at + len ≤ length (bytes_of pair.now side) }
     requires few { len ≤ MOST }

@@ -25,7 +25,7 @@ use step_kinds::{Side, SidePlan};
 ///
 /// # Errors
 ///
-/// [`AllocError`] only when out of memory, where a scratchpad was to be posted, and then nothing changes.
+/// [`AllocError`] if memory runs out; only if a scratchpad was to be posted, and then nothing changes.
 pub fn offer(pair: &mut Pair, side: Side) -> Result<OfferAnswer, AllocError>
     ensures answer { IfOk result (λ answer. answer ≡ offer_answer pair.old side) }
     ensures after { OnOk result (pair.new ≡ after_offer pair.old side) }
@@ -77,8 +77,8 @@ fn next_pad(pair: &Pair, side: Side) -> OfferedPad
     offered_pad(&side_plan(pair.plan(), side), pair.book(side).offered)
 }
 
-/// A side posts a scratchpad of the peer while the link is up, and asks for the room itself. The only error is running
-/// out of memory, and then nothing changes.
+/// A side posts a scratchpad of the peer while the link is up, and asks for the room itself. Returns an error if memory
+/// runs out, and then nothing changes.
 pub fn post_pad(pair: &mut Pair, side: Side, index: u32, value: u32) -> Result<(), AllocError>
     requires among { index < 16 }
     requires up { IsTrue (is_link_up pair.old.link.state) }

@@ -21,7 +21,7 @@ const LINKS_PAD: u32 = 1;
 ///
 /// # Errors
 ///
-/// [`AllocError`] only when out of memory, where the queue was to become ready, and then nothing changes.
+/// [`AllocError`] if memory runs out; only if the queue was to become ready, and then nothing changes.
 pub fn ready(pair: &mut Pair, side: Side, queue: u32) -> Result<ReadyAnswer, AllocError>
     requires { queue < (side_plan pair.old.plan side).queues }
     ensures answer { IfOk result (λ answer. answer ≡ ready_answer pair.old side queue) }

@@ -21,11 +21,11 @@ told_is : {X : Type 0} (got : Option (Bor X)) (page : Option X) (told : Bool) �
 told_is None page told same is = ap is_some (sym same) ∙ sym is
 told_is (Some x) page told same is = ap is_some (sym same) ∙ sym is
 
--- Where the test of a page that was looked up says that it is there, the page is there.
+-- If the test of a page that was looked up says that it is there, the page is there.
 pub told_there : {X : Type 0} (got : Option (Bor X)) (page : Option X) (told : Bool) → option_copied got ≡ page → told ≡ is_some got → told ≡ true → IsSome page
 told_there got page told same is so = told_is got page told same is ∙ so
 
--- Where the test of a page that was looked up says that it isn't there, there is no such page.
+-- If the test of a page that was looked up says that it isn't there, there is no such page.
 pub told_absent : {X : Type 0} (got : Option (Bor X)) (page : Option X) (told : Bool) → option_copied got ≡ page → told ≡ is_some got → told ≡ false → ¬ IsSome page
 told_absent got page told same is so some = false≢true (sym so ∙ (sym (told_is got page told same is) ∙ some))
 
@@ -40,15 +40,15 @@ absent_zeros memory contents at len is seen within absent = λ i below.
     (byte-bytes_in (page_at memory.pages.groups.items) memory.len (at + i) 0 (omega (arith, within, below))
     ∙ byte_of_none (page_at memory.pages.groups.items (page_of (at + i))) ((at + i) % 512) none)
 
--- of the first so many numbers of a list none lies between two others
+-- of the first this many numbers of a list none lies between two others
 abbrev pub LieOutside : ℕ → ℕ → ℕ → List ℕ → Type 0
 LieOutside first last count numbers = (k : ℕ) → k < count → first ≤ slice_index_or numbers k 0 → ¬ (slice_index_or numbers k 0 ≤ last)
 
--- Where none of a list's first numbers lies in a range, nor the next one, none of one number more lies there.
+-- If none of a list's first numbers lies in a range, nor the next one, none of one number more lies there.
 pub outside_more : (first last count : ℕ) (numbers : List ℕ) → LieOutside first last count numbers → (first ≤ slice_index_or numbers count 0 → ¬ (slice_index_or numbers count 0 ≤ last)) → LieOutside first last (count + 1) numbers
 outside_more first last count numbers so_far next = below_more (λ k. first ≤ slice_index_or numbers k 0 → ¬ (slice_index_or numbers k 0 ≤ last)) count so_far next
 
--- Where none of a list's numbers lies between a first and a last page, none of these pages is in the list.
+-- If none of a list's numbers lies between a first and a last page, none of these pages is in the list.
 pub outside_all : (first last count : ℕ) (numbers : List ℕ) → ¬ (count < length numbers) → LieOutside first last count numbers → AreNotAmong first last numbers
 outside_all first last count numbers all outside page from to (k, within, is) =
     let number : slice_index_or numbers k 0 ≡ page = sym (get_or_default_zero numbers k page within) ∙ is in

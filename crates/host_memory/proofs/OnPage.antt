@@ -10,7 +10,7 @@ use Rattle.host_memory.specs.Memory.{bytes_at}
 use Rattle.host_memory.specs.Pages.{Found, byte_on, bytes_in}
 use Rattle.host_memory.proofs.MemoryPages.{middle, read_shown}
 
--- so many bytes of a page
+-- this many bytes of a page
 pub length-mid : (start n : ℕ) (bytes : List ℕ) → start + n ≤ length bytes → length (mid_of start (start + n - start) bytes) ≡ n
 length-mid start n bytes within = grind (arith, common_steps)
 

@@ -54,7 +54,7 @@ told_part page from to first end one other told forward here there inside outsid
 
 -- Lists of pages
 
--- on each of the first so many pages of a list
+-- on each of the first this many pages of a list
 abbrev pub AreSameOnFirst : List ℕ → ℕ → (ℕ → Type 0) → ℕ → ℕ → List ℕ → List ℕ → Type 0
 AreSameOnFirst pages count counts from to one other = (k : ℕ) → k < count → counts (slice_index_or pages k 0) → AreSameOnPage (slice_index_or pages k 0) from to one other
 

@@ -12,7 +12,7 @@ pub record Contents : Type 0 where
 abbrev pub written : ℕ → List ℕ → List ℕ → List ℕ
 written at bytes mem = take at mem ++ bytes ++ drop (at + length bytes) mem
 
--- so many bytes of the memory from an address on
+-- this many bytes of the memory from an address on
 abbrev pub bytes_at : ℕ → ℕ → List ℕ → List ℕ
 bytes_at at len mem = take len (drop at mem)
 
@@ -24,7 +24,7 @@ word_at at mem = little_number 4 (drop at mem)
 abbrev pub page_of : ℕ → ℕ
 page_of address = address / 512
 
--- the range of so many bytes from an address on has a byte on the page
+-- the range of this many bytes from an address on has a byte on the page
 abbrev pub Touches : ℕ → ℕ → ℕ → Type 0
 Touches at len page = (address : ℕ) × (at ≤ address) × (address < at + len) × (page_of address ≡ page)
 

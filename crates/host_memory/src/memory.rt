@@ -31,7 +31,7 @@ impl Memory {
     ///
     /// # Errors
     ///
-    /// [`AllocError`] where `len` is 2^63 or more, since no machine has so many bytes.
+    /// [`AllocError`] where `len` is 2^63 or more, since no machine has that many bytes.
     pub fn new(alloc: Global, len: u64) -> Result<Memory, AllocError>
         ensures zeros { IfOk result (λ m. m ≡ record { bytes = replicate len 0; promised = [] }) }
         ensures succeeds { len < 2 ^ 63 → IsOk result }
@@ -50,7 +50,7 @@ impl Memory {
     ///
     /// # Errors
     ///
-    /// [`AllocError`] from out of memory alone.
+    /// [`AllocError`] if memory runs out.
     pub fn copy_of(&self, alloc: Global) -> Result<Memory, AllocError>
         ensures { IfOk result (λ copy. copy ≡ self.now) }
     {
@@ -183,12 +183,12 @@ impl Memory {
     }
 
     /// Promises each page that the `len` bytes from the address `at` on touch, so that they may be written. The bytes
-    /// have to lie in the memory; no bytes touch no page. What was promised before stays so, and no byte changes.
-    /// Where all these pages were promised before, nothing is done, and the answer is `Ok`.
+    /// have to lie in the memory; no bytes touch no page. What was promised before stays so, and no byte changes. If
+    /// all these pages were promised before, nothing is done, and the answer is `Ok`.
     ///
     /// # Errors
     ///
-    /// [`AllocError`] only when out of memory. Some of the pages may then be promised, and no others.
+    /// [`AllocError`] if memory runs out. Some of the pages may then be promised, and no others.
     #[inline]
     pub fn promise(&mut self, at: u64, len: u64) -> Result<(), AllocError>
         requires { at + len ≤ length self.old.bytes }

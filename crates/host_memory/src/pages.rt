@@ -14,7 +14,7 @@ type Group = Vec<Option<Page>>;
 const GROUP_PAGES: u64 = 512;
 
 /// The pages that are there, by their numbers. The first [`GROUP_PAGES`] numbers are of the first group, and so on.
-/// There are only so many groups, and in a group only so many places, as the pages that were put there needed.
+/// There are only this many groups, and in a group only this many places, as the pages that were put there needed.
 #[derive(Drop)]
 pub struct Pages {
     groups: Vec<Group>,
@@ -32,7 +32,7 @@ impl Pages {
         }
     }
 
-    /// The same pages, each with the same bytes. The only error is running out of memory.
+    /// The same pages, each with the same bytes. Returns an error if memory runs out.
     pub fn copy_of(&self, alloc: Global) -> Result<Pages, AllocError>
         ensures { IfOk result (λ copy. bytes_by_group copy.groups.items ≡ bytes_by_group self.now.groups.items) }
     {
@@ -85,7 +85,7 @@ impl Pages {
     }
 }
 
-// Makes so many groups at least.
+// Makes this many groups at least.
 fn make_groups(alloc: Global, groups: &mut Vec<Group>, count: usize) -> Result<(), AllocError>
     ensures pages { KeepsPages groups.old.items groups.new.items }
     ensures ok { OnOk result (count ≤ length groups.new.items) }
@@ -97,7 +97,7 @@ fn make_groups(alloc: Global, groups: &mut Vec<Group>, count: usize) -> Result<(
     Ok(())
 }
 
-// Makes so many places at least in a group.
+// Makes this many places at least in a group.
 fn make_places(group: &mut Group, count: usize) -> Result<(), AllocError>
     ensures pages { KeepsPlaces group.old.items group.new.items }
     ensures ok { OnOk result (count ≤ length group.new.items) }

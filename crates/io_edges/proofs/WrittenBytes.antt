@@ -44,7 +44,7 @@ written_none before bytes = record { front = []; split = refl; held = holds_none
 rest_of : (rest : List ℕ) (count : ℕ) → take (length rest - count) (drop count rest) ≡ drop count rest
 rest_of rest count = take_all (length rest - count) (drop count rest) (omega (arith, length-drop count rest))
 
--- a write that took a byte or more leaves so many fewer
+-- a write that took a byte or more leaves this many fewer
 pub fewer_left : (rest : List ℕ) (count most writes writes' : ℕ) → count ≤ length rest → 0 < length rest → (0 < length rest → 0 < count) →
     writes' ≤ writes + 1 → writes + length rest ≤ most → writes' + length (take (length rest - count) (drop count rest)) ≤ most
 fewer_left rest count most writes writes' bound some took one few =

@@ -1,8 +1,8 @@
 -- What one read and one write do to the bytes of a stream, where those are told (`Some`).
 use Rattle.std.specs.Prelude.{◌≡◌, ◌⊎◌, ℕ, ◌≤◌, List, [], ◌++◌, length, take, drop, MatchResult, Option, Result, Some, None}
 
--- The buffer begins with the first bytes of the content, this many, and the others are left. There are none only where
--- the buffer has no room or the content is at its end.
+-- The buffer begins with the first bytes of the content, this many, and the others are left. There are none only if the
+-- buffer has no room or the content is at its end.
 pub record TakesFront (content : List ℕ) (left : Option (List ℕ)) (count : ℕ) (buffer : List ℕ) : Type 0 where
   pub front : take count buffer ≡ take count content
   pub there : count ≤ length content

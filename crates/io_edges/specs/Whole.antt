@@ -6,11 +6,11 @@ abbrev pub HasGiven : Option (List ℕ) → Option (List ℕ) → List ℕ → T
 HasGiven None left bytes = left ≡ None
 HasGiven (Some content) left bytes = (rest : List ℕ) × (content ≡ bytes ++ rest) × (left ≡ Some rest)
 
--- The source has given a front of its content, of at most so many bytes.
+-- The source has given a front of its content, of at most this many bytes.
 abbrev pub HasGivenAtMost : ℕ → Option (List ℕ) → Option (List ℕ) → Type 0
 HasGivenAtMost most before left = (front : List ℕ) × (length front ≤ most) × HasGiven before left front
 
--- The source has given a front of its content, of at most so many bytes, and each read but the last one gave a byte
+-- The source has given a front of its content, of at most this many bytes, and each read but the last one gave a byte
 -- of it.
 abbrev pub HasGivenAtReads : ℕ → Option (List ℕ) → Option (List ℕ) → ℕ → ℕ → Type 0
 HasGivenAtReads most before left reads reads' =

@@ -1,7 +1,7 @@
 //! The outside: sources and sinks of bytes, each with a count of its faults.
 //!
-//! A contract can say "this error comes only where the outside failed in this call", since the count rises at each
-//! fault and code on top can't raise it. The count rises up to the last value of a `u64`.
+//! A contract can say "this error comes only if the outside failed in this call", since the count rises at each fault
+//! and code on top can't raise it. The count rises up to the last value of a `u64`.
 #![tactic(auto)]
 
 mod gate;

@@ -9,8 +9,8 @@ use crate::{Failed, Sink};
 use std::alloc::{AllocError, Global};
 use std::marker::Model;
 
-/// A sink in memory that holds at most so many bytes and takes at most so many at a write. It fails at the writes with
-/// these numbers, and where it can take nothing of a piece that isn't empty.
+/// A sink in memory that holds at most this many bytes and takes at most this many at a write. It fails at the writes
+/// with these numbers, and where it can take nothing of a piece that isn't empty.
 #[derive(Drop)]
 pub struct MemorySink {
     bytes: Vec<u8>,

@@ -8,7 +8,7 @@ use crate::plan::FaultPlan;
 use crate::{Failed, Source};
 use std::marker::Model;
 
-/// A source in memory that gives at most so many bytes at a read, and fails at the reads with these numbers.
+/// A source in memory that gives at most this many bytes at a read, and fails at the reads with these numbers.
 #[derive(Drop)]
 pub struct MemorySource {
     bytes: Vec<u8>,

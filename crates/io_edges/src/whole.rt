@@ -59,14 +59,13 @@ const PIECE: usize = 65_536;
 /// 1` bytes at most. Each read but the last one gives a byte: nothing is read after the end, after a fault or
 /// after a byte too many.
 ///
-/// Where the source tells its bytes, `Ok` has all of them, and none is left.
+/// If the source tells its bytes, `Ok` has all of them, and none is left.
 ///
 /// # Errors
 ///
-/// [`ReadError::TooLong`] exactly where more than `limit` bytes were taken, which are then `limit + 1`.
-/// [`ReadError::ReadFault`] only where a read failed, and [`ReadError::OutOfMemory`] only when out of memory: at most
-/// `limit` bytes from the front of the source are taken then. In every case but `ReadFault` the source's count of
-/// faults stays.
+/// [`ReadError::TooLong`] if more than `limit` bytes were taken, which are then `limit + 1`. [`ReadError::ReadFault`]
+/// only if a read failed, and [`ReadError::OutOfMemory`] if memory runs out: at most `limit` bytes from the front of
+/// the source are taken then. In every case but `ReadFault` the source's count of faults stays.
 pub fn read_all<S: Source>(
     alloc: Global,
     source: &mut S,
@@ -105,7 +104,7 @@ pub fn read_all<S: Source>(
     Err(ReadError::TooLong)
 }
 
-/// A buffer of so many bytes.
+/// A buffer of this many bytes.
 fn zeros(alloc: Global, len: usize) -> Result<Vec<u8>, AllocError>
     ensures { IfOk result (λ buffer. vec_len buffer ≡ len) }
 {

@@ -32,7 +32,7 @@ answers_busy lane count all some = cond-false (is_empty_list lane.todo) (has_roo
     not_empty [] h = h
     not_empty (mark ∷ marks) h = refl
 
--- where none is left, an entry is begun exactly where the ring has room
+-- where none is left, an entry is begun if and only if the ring has room
 no_writes : (lane : Lane) → lane.todo ≡ [] → down_answer lane ≡ has_room lane
 no_writes lane none = cond-true (is_empty_list lane.todo) (has_room lane) Busy (ap is_empty_list none)
 

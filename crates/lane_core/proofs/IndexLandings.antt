@@ -83,7 +83,7 @@ pub record IsUnmoved (l : Inside) (place : ℕ) (returning : Flight IndexWrite) 
   pub after : after_land_index (lane_seen l) place ≡ lane_seen l
   pub answers : land_index_answer (value_seen l) place ≡ answer
 
--- Where the flight has no index write at the place, it stays the same and the model's lane answers `Nothing`.
+-- If the flight has no index write at the place, it stays the same and the model's lane answers `Nothing`.
 pub none_returned : (l : Inside) (place : ℕ) (returning : Flight IndexWrite) → QueueNothing ≡ queue_answer order_of_index l.returning place → returning ≡ queue_after order_of_index l.returning place → IsUnmoved l place returning Nothing
 none_returned l place returning answer after =
     let was = was_nothing _ _ answer in
@@ -94,7 +94,7 @@ none_returned l place returning answer after =
       answers = ap (index_found (value_seen l) place) found;
     }
 
--- Where the flight says that an index write is blocked, it stays the same and the model's lane answers `Blocked`.
+-- If the flight says that an index write is blocked, it stays the same and the model's lane answers `Blocked`.
 pub blocked_return : (l : Inside) (place : ℕ) (returning : Flight IndexWrite) → QueueBlocked ≡ queue_answer order_of_index l.returning place → returning ≡ queue_after order_of_index l.returning place → IsUnmoved l place returning Blocked
 blocked_return l place returning answer after =
     let was = was_blocked _ _ answer in
@@ -110,7 +110,7 @@ blocked_return l place returning answer after =
 pub unmoved_answer : {l : Inside} {place : ℕ} {returning : Flight IndexWrite} {answer : LaneLand} {value : LaneValue} → IsUnmoved l place returning answer → value_seen l ≡ value → answer ≡ land_index_answer value place
 unmoved_answer {place = place} {answer = answer} still seen = subst (λ (value : LaneValue). answer ≡ land_index_answer value place) seen (sym still.answers)
 
--- Where no index write landed, the lane that contracts see is the model's after the landing.
+-- If no index write landed, the lane that contracts see is the model's after the landing.
 pub unmoved_after : {l : Inside} {place : ℕ} {returning : Flight IndexWrite} {answer : LaneLand} {value : LaneValue} → IsUnmoved l place returning answer → value_seen l ≡ value
     → value_seen (record l { returning = returning }) ≡ with_lane value (after_land_index value.lane place)
 unmoved_after {l = l} {place = place} still seen =

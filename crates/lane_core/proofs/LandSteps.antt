@@ -30,19 +30,19 @@ use Rattle.lane_core.proofs.Parts.{All-remove, map-remove}
 
 -- What the queue answers
 
--- A flight answers that a write landed only where that write stands at the place and may land.
+-- A flight answers that a write landed only if that write stands at the place and may land.
 pub was_landed : {W : Type 0} (found : Option W) (lands : Bool) (write : W) → QueueLanded write ≡ answer_for found lands → (found ≡ Some write) × (lands ≡ true)
 was_landed None lands write e = absurd (cc e)
 was_landed (Some w) true write e = (cc, refl)
 was_landed (Some w) false write e = absurd (cc e)
 
--- A flight answers that a write is blocked only where one stands at the place and may not land.
+-- A flight answers that a write is blocked only if one stands at the place and may not land.
 pub was_blocked : {W : Type 0} (found : Option W) (lands : Bool) → QueueBlocked ≡ answer_for found lands → (write : W) × (found ≡ Some write) × (lands ≡ false)
 was_blocked None lands e = absurd (cc e)
 was_blocked (Some w) true e = absurd (cc e)
 was_blocked (Some w) false e = (w, refl, refl)
 
--- A flight answers `Nothing` to a landing only where no write stands at the place.
+-- A flight answers `Nothing` to a landing only if no write stands at the place.
 pub was_nothing : {W : Type 0} (found : Option W) (lands : Bool) → QueueNothing ≡ answer_for found lands → found ≡ None
 was_nothing None lands e = refl
 was_nothing (Some w) true e = absurd (cc e)

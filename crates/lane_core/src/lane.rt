@@ -64,7 +64,7 @@ impl Lane {
     ///
     /// # Errors
     ///
-    /// [`AllocError`] only when out of memory: the ring takes `entries` times `max` bytes, and some more.
+    /// [`AllocError`] if memory runs out: the ring takes `entries` times `max` bytes, and some more.
     pub fn new(
         alloc: Global,
         queue: u32,
@@ -116,7 +116,7 @@ impl Lane {
     ///
     /// # Errors
     ///
-    /// [`AllocError`] only when out of memory, where the frame was to be begun, and then nothing changes. Room for the
+    /// [`AllocError`] if memory runs out; only if the frame was to be begun, and then nothing changes. Room for the
     /// frame's posts is taken here.
     pub fn begin(&mut self, frame: Frame) -> Result<Begun, AllocError>
         requires some_bytes { 0 < length frame }
@@ -148,7 +148,7 @@ impl Lane {
     ///
     /// # Errors
     ///
-    /// [`AllocError`] only when out of memory, where the entry was to be begun, and then nothing changes.
+    /// [`AllocError`] if memory runs out; only if the entry was to be begun, and then nothing changes.
     pub fn down(&mut self) -> Result<Begun, AllocError>
         requires open { IsOpen self.old.lane }
         requires few { length self.old.lane.sent < 2 ^ 46 }
@@ -190,9 +190,9 @@ impl Lane {
         Ok(Begun::Ok { number })
     }
 
-    /// Posts the next write of the entry that was begun last, and answers its label. It is last of those in flight
+    /// Posts the next write of the entry that was begun last, and returns its label. It is last of those in flight
     /// then. Once the link was cut it is lost instead, and the label is answered all the same, since nobody tells a
-    /// sender that a posted write went nowhere. `None` exactly where no write is left to post, and then nothing
+    /// sender that a posted write went nowhere. `None` if and only if no write is left to post, and then nothing
     /// changes.
     pub fn post(&mut self) -> Option<Label>
         ensures answer { result ≡ post_answer self.old }
@@ -260,7 +260,7 @@ impl Lane {
     ///
     /// # Errors
     ///
-    /// [`AllocError`] only when out of memory, where a frame was found, and then nothing changes. Room for the frame's
+    /// [`AllocError`] if memory runs out; only if a frame was found, and then nothing changes. Room for the frame's
     /// copies and its index write is taken here.
     pub fn look(&mut self) -> Result<LaneLook, AllocError>
         ensures answer { IfOk result (λ look. look ≡ look_answer self.old.lane) }
@@ -290,7 +290,7 @@ impl Lane {
     }
 
     /// Copies the next part of the frame that was found: 128 bytes, or what is left of the frame. With the last part it
-    /// answers the whole frame. [`LaneCopy::OutOfTurn`] exactly where no frame is being copied, and then nothing
+    /// answers the whole frame. [`LaneCopy::OutOfTurn`] if and only if no frame is being copied, and then nothing
     /// changes.
     pub fn copy(&mut self) -> LaneCopy
         ensures answer { result ≡ copy_answer self.old.lane }
@@ -316,8 +316,8 @@ impl Lane {
         }
     }
 
-    /// Clears the flags in the slot of the frame that was copied, and answers its number. The slot is empty for the
-    /// next round then (`ntb_transport` clears the flags before it gives the entry back). `None` exactly where the
+    /// Clears the flags in the slot of the frame that was copied, and returns its number. The slot is empty for the
+    /// next round then (`ntb_transport` clears the flags before it gives the entry back). `None` if and only if the
     /// receiver has not just copied a frame whole, and then nothing changes.
     pub fn clear(&mut self) -> Option<u64>
         ensures answer { result ≡ clear_answer self.old.lane }
@@ -334,8 +334,8 @@ impl Lane {
         Some(number)
     }
 
-    /// Posts the index write that gives the cleared frame's entry back, and answers the frame's number. `None` exactly
-    /// where no flags were just cleared, and then nothing changes. Once the link was cut the write is lost, and the
+    /// Posts the index write that gives the cleared frame's entry back, and returns the frame's number. `None` if and
+    /// only if no flags were just cleared, and then nothing changes. Once the link was cut the write is lost, and the
     /// number is answered all the same.
     pub fn ack(&mut self) -> Option<u64>
         ensures answer { result ≡ ack_answer self.old.lane }
@@ -389,7 +389,7 @@ impl Model for Lane {
     ghost invariant = { IsKept };
 }
 
-// Makes room for one more entry, for so many writes that are left to post, and for their posts.
+// Makes room for one more entry, for this many writes that are left to post, and for their posts.
 fn make_room(
     sent: &mut Vec<Entry>,
     todo: &mut VecDeque<Write>,

@@ -15,7 +15,7 @@ use lane_model::{Field, Write};
 use std::alloc::{AllocError, Global};
 use step_kinds::Label;
 
-/// A ring of so many zeroed slots. The only error is running out of memory.
+/// A ring of this many zeroed slots. Returns an error if memory runs out.
 pub fn zeroed_ring(alloc: Global, entries: u32, largest: u32) -> Result<Vec<Slot>, AllocError>
     ensures { IfOk result (λ ring. map place_seen ring.items ≡ replicate entries (zeroed_slot largest)) }
 {
@@ -78,7 +78,7 @@ pub fn put_flags(ring: &mut [Slot], entries: u32, number: u64, flags: u32)
 }
 
 /// Copies part `part` of the frame that stands in a slot after what was copied before, in room that was reserved, and
-/// answers whether more of the frame is left. The slot's length fits its payload, and the part begins no later than the
+/// returns whether more of the frame is left. The slot's length fits its payload, and the part begins no later than the
 /// frame ends.
 pub fn copy_chunk(copied: &mut Vec<u8>, place: &Slot, part: u32) -> bool
     requires begins { chunk_size * part ≤ place.now.len }
@@ -106,7 +106,7 @@ fn append_reserved(out: &mut Vec<u8>, bytes: &[u8])
     }
 }
 
-/// The label of a write of the lane on a queue. Where it writes flags, their entry was begun.
+/// The label of a write of the lane on a queue. If it writes flags, their entry was begun.
 pub fn label(queue: u32, sent: &[Entry], mark: Write) -> Label
     requires { IsKnown mark (length sent.now) }
     ensures { result ≡ label_of queue (entry_in (map entry_seen sent.now) (number_of mark)) mark }

@@ -31,8 +31,8 @@ impl Slot {
     ghost use Rattle.lane_core.specs.Fresh.{zeroed_slot};
     ghost use Rattle.lane_core.specs.Parts.{entry_seen, place_seen, BeginsWithin};
 
-    /// A slot of which all bytes are zero, with room for payloads of up to `largest` bytes. The only error is running
-    /// out of memory.
+    /// A slot of which all bytes are zero, with room for payloads of up to `largest` bytes. Returns an error if memory
+    /// runs out.
     pub fn zeroed(alloc: Global, largest: u32) -> Result<Slot, AllocError>
         ensures { IfOk result (λ place. place_seen place ≡ zeroed_slot largest) }
     {

@@ -58,7 +58,7 @@ flag_is_next lost lost_back lane n rest front h =
     apart : (lane.flight ++ lost) ++ lane.todo ≡ Flag n ∷ (rest ++ lost) ++ lane.todo
     apart = front_apart lane.flight (Flag n) rest lost lane.todo front
 
--- Where the law of the ring holds, a field in flight is of an entry that was begun and whose flags haven't landed.
+-- If the law of the ring holds, a field in flight is of an entry that was begun and whose flags haven't landed.
 pub data_is_ahead : (lost : List Write) (lost_back : List ℕ) (lane : Lane) (n : ℕ) (field : Field) → Contains lane.flight (Data n field)
     → RingLaw lost lost_back lane → (lane.flagged ≤ n) × (n < length lane.sent) × Contains (data_of n (entry_of lane n)) (Data n field)
 data_is_ahead lost lost_back lane n field among h =

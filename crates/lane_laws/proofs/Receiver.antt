@@ -23,7 +23,7 @@ look_sees lost lost_back lane idle h =
       one_of_both = h.counts.got_first;
     }
 
--- Where the law of the ring holds, a copying receiver's entry stands whole in its slot, with a part left to copy.
+-- If the law of the ring holds, a copying receiver's entry stands whole in its slot, with a part left to copy.
 pub copy_sees : (lost : List Write) (lost_back : List ℕ) (lane : Lane) → lane.phase ≡ Copying → RingLaw lost lost_back lane
     → (lane.got < lane.flagged) × StandsWhole (slot_of lane lane.got) lane.got (entry_of lane lane.got)
     × (lane.part < copies_of (entry_of lane lane.got)) × Stands (slot_of lane lane.got) lane.got (entry_of lane lane.got) (Chunk lane.part)

@@ -68,7 +68,7 @@ left_more (first ∷ entries) n m writes entry e h =
     let next : m ≡ suc n + length entries = omega arith in
     (h.0, h.1 ++ writes_of m entry, ap (λ w. w ++ writes_of m entry) h.2 ∙ append_assoc h.0 (Flag n ∷ Bell ∷ h.1) (writes_of m entry), h.3, left_more entries (suc n) m h.1 entry next h.4)
 
--- one field less, wherever it stands
+-- one field less, wherever it is
 pub left_without : (entries : List Entry) (n : ℕ) (before behind : List Write) (k : ℕ) (field : Field)
     → AreLeft n entries (before ++ Data k field ∷ behind) → AreLeft n entries (before ++ behind)
 left_without [] n before behind k field none = absurd (not_empty before behind (Data k field) none)

@@ -113,12 +113,12 @@ pub fn data_is_ahead()
     ensures { DataIsAhead }
 {}
 
-/// Where the link is up, nothing is in flight and nothing is left to post, every entry has its flags.
+/// If the link is up, nothing is in flight and nothing is left to post, every entry has its flags.
 pub fn nothing_left()
     ensures { NothingLeft }
 {}
 
-/// Each slot of the ring has one owner at each moment: that of the entry which it is for. Where no entry that was begun
+/// Each slot of the ring has one owner at each moment: that of the entry which it is for. If no entry that was begun
 /// and not given back has the slot, its owner is the sender.
 pub fn each_has_one_owner()
     ensures { EachHasOneOwner }

@@ -2,7 +2,7 @@
 use Rattle.std.proofs.Common.{◌≡◌, ℕ, zero, suc, ◌+◌, ◌<◌, length, get_or, refl, ap, ◌∙◌, arith}
 use Rattle.lane_model.specs.Lane.{count_from}
 
--- A list of so many consecutive numbers has just that length.
+-- A list of this many consecutive numbers has just that length.
 pub length-count_from : (from more : ℕ) → length (count_from from more) ≡ more
 length-count_from from zero = refl
 length-count_from from (suc more) = ap suc (length-count_from (suc from) more)

@@ -94,7 +94,7 @@ new_lane entries largest ring index_word =
 abbrev pub chunk_size : ℕ
 chunk_size = 128
 
--- how many chunks so many bytes are
+-- how many chunks this many bytes are
 abbrev pub chunks_in : ℕ → ℕ
 chunks_in len = (len + chunk_size - 1) / chunk_size
 
@@ -106,7 +106,7 @@ copies_of entry = max 1 (chunks_in (length (bytes_of entry)))
 abbrev pub chunk_of : List ℕ → ℕ → List ℕ
 chunk_of bytes part = take chunk_size (drop (chunk_size * part) bytes)
 
--- so many numbers from this one on
+-- this many numbers from this one on
 abbrev pub count_from : ℕ → ℕ → List ℕ
 count_from from zero = []
 count_from from (suc more) = from ∷ count_from (suc from) more

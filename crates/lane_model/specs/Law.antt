@@ -26,7 +26,7 @@ abbrev pub AreLeft : ℕ → List Entry → List Write → Type 0
 AreLeft n [] writes = writes ≡ []
 AreLeft n (entry ∷ entries) writes = (fields : List Write) × (rest : List Write) × (writes ≡ fields ++ Flag n ∷ Bell ∷ rest) × IsPickedFrom fields (data_of n entry) × AreLeft (suc n) entries rest
 
--- The same with the doorbell of the entry before in front of it or not, so many entries having their flags.
+-- The same with the doorbell of the entry before in front of it or not, this many entries having their flags.
 abbrev pub AreLeftToLand : ℕ → List Entry → List Write → Type 0
 AreLeftToLand flagged sent writes =
     AreLeft flagged (drop flagged sent) writes ⊎ ((rest : List Write) × (writes ≡ Bell ∷ rest) × (0 < flagged) × AreLeft flagged (drop flagged sent) rest)

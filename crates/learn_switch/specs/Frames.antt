@@ -17,7 +17,7 @@ bytes_relay_answer switch port = relay_answer (λ bytes. bytes) switch port
 abbrev pub bytes_after_relay : Bytes → ℕ → Bytes
 bytes_after_relay switch port = after_relay (λ bytes. bytes) switch port
 
--- the port that a frame goes to is one of so many
+-- the port that a frame goes to is one of this many
 abbrev pub GoesBelow : ℕ → RelayAnswer → Type 0
 GoesBelow ports (To target) = target < ports
 GoesBelow ports _ = Unit {0}

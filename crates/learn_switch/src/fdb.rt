@@ -21,7 +21,7 @@ impl Fdb {
     ///
     /// # Errors
     ///
-    /// [`AllocError`] from out of memory alone.
+    /// [`AllocError`] if memory runs out.
     pub fn new(alloc: Global) -> Result<Fdb, AllocError>
         ensures { IfOk result (λ fdb. fdb ≡ []) }
     {
@@ -41,7 +41,7 @@ impl Fdb {
     ///
     /// # Errors
     ///
-    /// [`AllocError`] from out of memory alone.
+    /// [`AllocError`] if memory runs out.
     pub fn copy_of(&self, alloc: Global) -> Result<Fdb, AllocError>
         ensures { IfOk result (λ copy. copy ≡ self.now) }
     {
@@ -76,8 +76,8 @@ impl Fdb {
         }
     }
 
-    /// A frame with this source came from a port. Where the first byte of the address is odd, no station is learned.
-    /// Else a known station gets the port, and a new one is added where fewer than 256 are known. It takes no memory.
+    /// A frame with this source came from a port. If the first byte of the address is odd, no station is learned. Else
+    /// a known station gets the port, and a new one is added where fewer than 256 are known. It takes no memory.
     pub fn learn_source(&mut self, source: &[u8; 6], port: u32)
         ensures { self.new ≡ learned_source self.old port source.now }
     {

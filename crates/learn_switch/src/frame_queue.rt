@@ -28,7 +28,7 @@ impl FrameQueue {
     ///
     /// # Errors
     ///
-    /// [`AllocError`] from out of memory alone, and then nothing joined.
+    /// [`AllocError`] if memory runs out, and then nothing joined.
     pub fn push(&mut self, frame: Frame) -> Result<(), AllocError>
         ensures ok { OnOk result (self.new ≡ self.old ++ frame ∷ []) }
         ensures err { OnErr result (self.new ≡ self.old) }
@@ -41,7 +41,7 @@ impl FrameQueue {
     ///
     /// # Errors
     ///
-    /// [`AllocError`] from out of memory alone, and then nothing joined.
+    /// [`AllocError`] if memory runs out, and then nothing joined.
     pub fn push_copy(&mut self, alloc: Global, frame: &Frame) -> Result<(), AllocError>
         ensures ok { OnOk result (self.new ≡ self.old ++ frame.now ∷ []) }
         ensures err { OnErr result (self.new ≡ self.old) }
@@ -68,7 +68,7 @@ impl FrameQueue {
     ///
     /// # Errors
     ///
-    /// [`AllocError`] from out of memory alone.
+    /// [`AllocError`] if memory runs out.
     pub fn copy_of(&self, alloc: Global) -> Result<FrameQueue, AllocError>
         ensures { IfOk result (λ copy. copy ≡ self.now) }
     {
@@ -114,7 +114,7 @@ fn are_same_frames(frames: &VecDeque<Frame>, others: &VecDeque<Frame>) -> bool
 ///
 /// # Errors
 ///
-/// [`AllocError`] from out of memory alone.
+/// [`AllocError`] if memory runs out.
 pub fn copies(alloc: Global, queues: &[FrameQueue]) -> Result<Vec<FrameQueue>, AllocError>
     ensures { IfOk result (λ copies. copies.items ≡ queues.now) }
 {
@@ -129,7 +129,7 @@ pub fn copies(alloc: Global, queues: &[FrameQueue]) -> Result<Vec<FrameQueue>, A
 ///
 /// # Errors
 ///
-/// [`AllocError`] from out of memory alone, and then it joined none.
+/// [`AllocError`] if memory runs out, and then it joined none.
 pub fn push_to_all(
     queues: &mut [FrameQueue],
     alloc: Global,
@@ -152,7 +152,7 @@ pub fn push_to_all(
 ///
 /// # Errors
 ///
-/// [`AllocError`] from out of memory alone, and then it joined none.
+/// [`AllocError`] if memory runs out, and then it joined none.
 pub fn push_to_others(
     queues: &mut [FrameQueue],
     alloc: Global,
@@ -175,11 +175,11 @@ pub fn push_to_others(
     Ok(())
 }
 
-/// So many queues without a frame.
+/// This many queues without a frame.
 ///
 /// # Errors
 ///
-/// [`AllocError`] from out of memory alone.
+/// [`AllocError`] if memory runs out.
 pub fn empty_queues(alloc: Global, count: u32) -> Result<Vec<FrameQueue>, AllocError>
     ensures { IfOk result (λ queues. queues.items ≡ replicate count []) }
 {

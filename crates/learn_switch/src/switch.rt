@@ -31,7 +31,7 @@ impl Switch {
     ///
     /// # Errors
     ///
-    /// [`AllocError`] from out of memory alone.
+    /// [`AllocError`] if memory runs out.
     pub fn new(alloc: Global, ports: u32) -> Result<Switch, AllocError>
         requires two { 2 ≤ ports }
         requires few { ports ≤ 16 }
@@ -49,7 +49,7 @@ impl Switch {
     ///
     /// # Errors
     ///
-    /// [`AllocError`] from out of memory alone, and then nothing changes.
+    /// [`AllocError`] if memory runs out, and then nothing changes.
     pub fn arrive(&mut self, port: u32, frame: Frame) -> Result<(), AllocError>
         requires { port < length self.old.inboxes }
         ensures ok { OnOk result (self.new ≡ arrived self.old port frame) }
@@ -60,7 +60,7 @@ impl Switch {
 
     /// Relays the first frame of a port's inbox. The port is below the number of ports.
     ///
-    /// [`RelayAnswer::Nothing`] exactly where the inbox is empty, and then nothing changes. Else the frame leaves the
+    /// [`RelayAnswer::Nothing`] if and only if the inbox is empty, and then nothing changes. Else the frame leaves the
     /// inbox, and these are tested in this order:
     ///
     /// 1. It has fewer than 14 bytes: [`RelayAnswer::Short`], and it is dropped.
@@ -73,8 +73,8 @@ impl Switch {
     ///
     /// # Errors
     ///
-    /// [`AllocError`] from out of memory alone, and only where the frame is to wait at another port. Then nothing
-    /// changes: the frame stays in the inbox.
+    /// [`AllocError`] if memory runs out, and only if the frame is to wait at another port. Then nothing changes: the
+    /// frame stays in the inbox.
     pub fn relay(&mut self, port: u32) -> Result<RelayAnswer, AllocError>
         requires { port < length self.old.inboxes }
         ensures answer { IfOk result (λ answer. answer ≡ bytes_relay_answer self.old port) }
@@ -100,8 +100,8 @@ impl Switch {
         Ok(answer)
     }
 
-    /// The first frame that waits on a port, and `None` exactly where none waits. It has 14 bytes at least. The port is
-    /// below the number of ports.
+    /// The first frame that waits on a port, and `None` if and only if none waits. It has 14 bytes at least. The port
+    /// is below the number of ports.
     pub fn first(&self, port: u32) -> Option<&Frame>
         requires { port < length self.now.waiting }
         ensures value { option_copied result ≡ first self.now port }
@@ -134,7 +134,7 @@ impl Switch {
     ///
     /// # Errors
     ///
-    /// [`AllocError`] from out of memory alone.
+    /// [`AllocError`] if memory runs out.
     pub fn copy_of(&self, alloc: Global) -> Result<Switch, AllocError>
         ensures { IfOk result (λ copy. copy ≡ self.now) }
     {
@@ -146,7 +146,7 @@ impl Switch {
         })
     }
 
-    /// The port on which a station was seen last, and `None` exactly where it isn't known.
+    /// The port on which a station was seen last, and `None` if and only if it isn't known.
     pub fn lookup(&self, address: [u8; 6]) -> Option<u32>
         ensures { result ≡ lookup self.now.fdb address }
     {
@@ -188,7 +188,7 @@ fn header_of(frame: &Frame) -> Result<Header, Short>
     Ok(header)
 }
 
-// Where a frame from a port goes, in a switch with so many ports, once its source is learned.
+// Where a frame from a port goes, in a switch with this many ports, once its source is learned.
 fn route(fdb: &Fdb, ports: u32, port: u32, header: &Header) -> RelayAnswer
     requires some { 0 < ports }
     requires port { port < ports }
@@ -207,8 +207,8 @@ fn route(fdb: &Fdb, ports: u32, port: u32, header: &Header) -> RelayAnswer
     }
 }
 
-// A copy of a frame from a port joins the waiting frames of the ports that the answer says. Where it is out of memory,
-// it joins none.
+// A copy of a frame from a port joins the waiting frames of the ports that the answer says. If it is out of memory, it
+// joins none.
 fn forward(
     waiting: &mut Vec<FrameQueue>,
     alloc: Global,

@@ -1,4 +1,4 @@
--- `again` comes exactly where the ring has no room.
+-- `again` is returned if and only if the ring has no room.
 use Rattle.std.proofs.Common.{◌≡◌, ℕ, Bool, true, false, not, ◌&&◌, ◌||◌, Option, Some, None, List, [], length, refl, sym, ap, ◌∙◌, subst, arith}
 use Rattle.std.specs.Prelude.{nat_lt}
 use Rattle.std.proofs.lemmas.Bool.{false≢true, cond-false}
@@ -165,7 +165,7 @@ begun_subject (QpDown p side queue) lane e = ap (λ l. l.pair) (same_Some _ _ e)
 begun_subject (Xbegin p side queue dev dst kind payload) lane e = ap (λ l. l.pair) (same_Some _ _ e)
 begun_subject step lane e = absurd (none-some lane e)
 
--- On an ordinary pair a step that sends is `again` exactly where no earlier test refuses it and the ring lacks room.
+-- On an ordinary pair a step that sends is `again` if and only if no earlier test refuses it and the ring lacks room.
 pub again_where_no_room : AgainWhereNoRoom
 again_where_no_room plan memories steps step answer lane no_raw begins goes =
     let log = log_of plan memories steps in

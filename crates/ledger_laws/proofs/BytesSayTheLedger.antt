@@ -162,7 +162,7 @@ module _ (plan : Plan) (steps : List Step) (k : ℕ) (declared : IsDeclared plan
   law from queue has joined =
       ring_law_of_receiver plan (memory_of plan) steps (name from queue) no_raw ordinary (has_ring from queue has) (joined_side_is_up plan (memory_of plan) steps k (other_side from) queue joined)
 
-  -- the slot of the next entry, as the ring has it and as it stands in memory
+  -- the slot of the next entry, as the ring has it and as it is in memory
   abbrev next_slot : Side → ℕ → Slot
   next_slot from queue = slot_among (sizes_of Own from queue).entries (ring from queue).ring (lane_of Now from queue).got
 

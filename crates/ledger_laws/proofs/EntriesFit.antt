@@ -74,7 +74,7 @@ open_push sent entry piece all n below = elim (cases_eq n (length sent)) [
       λ down. all n old (sym (get_or_append_left sent (entry ∷ []) GoesDown n old) ∙ down)
 ]
 
--- the entry at a place carries so many bytes
+-- the entry at a place carries this many bytes
 pub record IsUnderWay (sent : List Entry) (got len : ℕ) : Type 0 where
   pub bytes : List ℕ
   pub left : ℕ
@@ -214,7 +214,7 @@ freed-begun q s chain waits takes =
     let d = takes.within in
     omega arith
 
--- a frame of so many entries was begun
+-- a frame of this many entries was begun
 leaves_begun : (sizes : Sizes) (lane : LanePart) (needed begun : ℕ) → lane.freed ≤ length lane.sent → 0 < needed → needed ≤ free_of sizes lane → begun ≡ begun_in lane + needed
     → LeavesOneFree sizes.entries begun lane.freed
 leaves_begun sizes lane needed begun low some room e there = omega arith

@@ -1,4 +1,4 @@
--- With origins in its switches a network comes to the same, but for the origins.
+-- With origins in its switches a network is the same but for the origins.
 use Rattle.std.proofs.Common.{◌≡◌, ℕ, List, [], ◌∷◌, ◌++◌, Option, Some, None, length, map, refl, sym, ap, ◌∙◌}
 use Rattle.std.specs.Prelude.{option_map}
 use Rattle.std.proofs.Math.ListN.{get_or-map}

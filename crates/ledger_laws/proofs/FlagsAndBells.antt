@@ -48,7 +48,7 @@ tick_of q label = tick (write_of q label)
 abbrev pub ticks_of : ℕ → List Label → List Bool
 ticks_of q labels = filter_map (tick_of q) labels
 
--- so many flags, each with its doorbell after it
+-- this many flags, each with its doorbell after it
 abbrev pub rounds : ℕ → List Bool
 rounds zero = []
 rounds (suc n) = true ∷ false ∷ rounds n
@@ -297,7 +297,7 @@ watched_kept plan lane s made news t no_raw (TakesBells Receiver) no_start saw h
     not_taken false saw e = refl
 watched_kept plan lane s made news t no_raw turn no_start saw h sees up = (h up).1 sees
 
--- Where nothing is left, all entries have their flags, and a receiver that saw so took them
+-- If nothing is left, all entries have their flags, and a receiver that saw so took them
 pub nothing_left : (q : ℕ) (s : Sight) → LinedOf q s → WatchedOf q s → s.sender.flight ≡ [] → s.lane.todo ≡ [] → has_bit s.receiver.pending q ≡ false
     → (s.lane.got ≡ s.lane.flagged) × (s.lane.flagged ≡ length s.lane.sent)
 nothing_left q s lined watched empty idle quiet = (got watched.why, flagged lined.ringing lined.left (sym lined.is ∙ none) lined.count)

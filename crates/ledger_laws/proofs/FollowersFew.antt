@@ -21,7 +21,7 @@ use Rattle.ledger_laws.proofs.walk.News.{News}
 use Rattle.ledger_laws.proofs.walk.Sight.{Sight, Sender}
 use Rattle.ledger_laws.proofs.walk.Turn.{Turn, Trains, Forgets, Begins, Closes, PostsNext, Strays, IsRaw, SizesOf}
 
--- the entry is one of those that a frame of so many bytes takes
+-- the entry is one of those that a frame of this many bytes takes
 pub record IsOfFrame (sizes : Sizes) (entry : Entry) : Type 0 where
   pub len : ℕ
   pub fits : len ≤ sizes.most

@@ -1,4 +1,4 @@
--- A look is answered `empty` or `peerdown` exactly where the log has no flags of a further entry, or those of a
+-- A look is answered `empty` or `peerdown` if and only if the log has no flags of a further entry, or those of a
 -- link-down entry.
 use Rattle.std.proofs.Common.{◌≡◌, ℕ, zero, suc, ◌+◌, ◌<◌, ◌≤◌, ◌==◌, Bool, true, false, not, ◌&&◌, Some, None, List, [], ◌∷◌, ◌++◌, length, map, refl, sym, ap, ◌∙◌, subst, append_assoc, arith, inl, inr, ◌⊎◌}
 use Rattle.std.specs.Prelude.{if◌then◌else◌, slice_get, slice_index_or, take}
@@ -561,10 +561,10 @@ down_after plan memories steps (Ack p side queue) ordinary = (neither_after plan
 down_after plan memories steps (Wake p side queue dev) ordinary = (neither_after plan memories steps (Wake p side queue dev) refl).1
 down_after plan memories steps step ordinary = refl
 
--- On an ordinary pair a look that may be made is answered `empty` exactly where all entries flagged were cleared.
+-- On an ordinary pair a look that may be made is answered `empty` if and only if all entries flagged were cleared.
 pub empty_where_nothing_landed : EmptyWhereNothingLanded
 empty_where_nothing_landed plan memories steps step answer ordinary goes = ap is_empty_answer (answer_of plan memories steps step answer goes) ∙ empty_after plan memories steps step ordinary
 
--- On an ordinary pair a look that may be made is `peerdown` exactly where the next landed flags say link-down.
+-- On an ordinary pair a look that may be made is `peerdown` if and only if the next landed flags say link-down.
 pub peer_down_where_down_landed : PeerDownWhereDownLanded
 peer_down_where_down_landed plan memories steps step answer ordinary goes = ap is_peer_down (answer_of plan memories steps step answer goes) ∙ down_after plan memories steps step ordinary

@@ -50,7 +50,7 @@ pub not_one_down : {sender receiver : Bool} → (sender ≡ true) × (receiver �
 not_one_down {sender} {receiver} both (inl down) = both_ways sender down both.0
 not_one_down {sender} {receiver} both (inr down) = both_ways receiver down both.1
 
--- Where it is not so that one of two sides is down, both are up.
+-- If it is not so that one of two sides is down, both are up.
 pub both_up : (sender receiver : Bool) → (OneDown sender receiver → ⊥) → (sender ≡ true) × (receiver ≡ true)
 both_up sender receiver none = (
   elim (cases_Bool sender) [ inl up ↦ up | inr down ↦ absurd (none (inl down)) ],
@@ -210,7 +210,7 @@ pub record SidesKnown (q : ℕ) (s : Sight) : Type 0 where
 abbrev pub started : PairPlan → Bool → PairPart
 started plan up = record (fresh_pair plan) { link = fresh_link up; sides = (if up then record { a = agreed_side plan.a plan.b; b = agreed_side plan.b plan.a } else both_of idle_side) }
 
--- Before any step queues are ready only on a side that is up, and joined only where both sides are up.
+-- Before any step queues are ready only on a side that is up, and joined only if both sides are up.
 pub joins_at_start : (plan : PairPlan) (from : Side) (q : ℕ) (up : Bool) → JoinsOf (sight from q (started plan up))
 joins_at_start plan A q true = (facts_up _ _ _ _, facts_up _ _ _ _)
 joins_at_start plan B q true = (facts_up _ _ _ _, facts_up _ _ _ _)

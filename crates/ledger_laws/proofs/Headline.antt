@@ -81,7 +81,7 @@ module _ (plan : Plan) (memories : Memories) (net : Network (List ℕ)) (Q : Ans
 none_some : (lane : LaneName) → None ≡ Some lane → ⊥
 none_some lane e = cc
 
--- On an ordinary pair a begin is `again` exactly where it isn't refused earlier and its ring has too little room.
+-- On an ordinary pair a begin is `again` if and only if it isn't refused earlier and its ring has too little room.
 pub items_again_where_no_room : ItemsAgainWhereNoRoom
 items_again_where_no_room plan memories steps step lane ordinary =
     each_item plan memories (network_of plan memories steps) IsRight (λ pair side queue switch port answer e. absurd (none_some lane e)) (λ pair side queue dev e. absurd (none_some lane e))
@@ -104,7 +104,7 @@ no_link_down Dropped = refl
 no_link_down (ToPort port) = refl
 no_link_down (ToOthers count) = refl
 
--- A step is answered `linkdown` exactly where it needs a link that isn't up, by the last link step of its pair that
+-- A step is answered `linkdown` if and only if it needs a link that isn't up, by the last link step of its pair that
 -- wasn't refused, or by the plan.
 pub items_link_down_where_not_up : ItemsLinkDownWhereNotUp
 items_link_down_where_not_up plan memories steps step =

@@ -44,11 +44,11 @@ push_none read xs x e = filter_map-last read xs x ∙ ap (λ o. filter_map read 
 pub push_some : {X Y : Type 0} (read : X → Option Y) (xs : List X) (x : X) (y : Y) → read x ≡ Some y → filter_map read (xs ++ x ∷ []) ≡ filter_map read xs ++ y ∷ []
 push_some read xs x y e = filter_map-last read xs x ∙ ap (λ o. filter_map read xs ++ cons_option o []) e
 
--- Where a list's first item reads as some value, that value is first in what is read of the list.
+-- If a list's first item reads as some value, that value is first in what is read of the list.
 pub first_some : {X Y : Type 0} (read : X → Option Y) (x : X) (xs : List X) (y : Y) → read x ≡ Some y → filter_map read (x ∷ xs) ≡ y ∷ filter_map read xs
 first_some read x xs y e = ap (λ o. cons_option o (filter_map read xs)) e
 
--- Where a list's first item reads as nothing, what is read of the list is what is read of the others.
+-- If a list's first item reads as nothing, what is read of the list is what is read of the others.
 pub first_none : {X Y : Type 0} (read : X → Option Y) (x : X) (xs : List X) → read x ≡ None → filter_map read (x ∷ xs) ≡ filter_map read xs
 first_none read x xs e = ap (λ o. cons_option o (filter_map read xs)) e
 
@@ -58,7 +58,7 @@ split_whole [] place x at = absurd (none-some x at)
 split_whole (y ∷ ys) zero x at = ap (λ first. first ∷ ys) (same_Some y x at)
 split_whole (y ∷ ys) (suc place) x at = ap (λ others. y ∷ others) (split_whole ys place x at)
 
--- Where an item between two lists reads as some value, that value stands between what is read of the two.
+-- If an item between two lists reads as some value, that value stands between what is read of the two.
 pub middle_some : {X Y : Type 0} (read : X → Option Y) (before behind : List X) (x : X) (y : Y) → read x ≡ Some y
     → filter_map read (before ++ x ∷ behind) ≡ filter_map read before ++ y ∷ filter_map read behind
 middle_some read before behind x y e = filter_map-append read before (x ∷ behind) ∙ ap (λ o. filter_map read before ++ cons_option o (filter_map read behind)) e

@@ -1,5 +1,5 @@
--- A side is up, and a queue is joined, only where the numbers of both sides agree: the side's own check has found so,
--- or both sides' have.
+-- A side is up, and a queue is joined, only if the numbers of both sides agree: the side's own check has found so, or
+-- both sides' have.
 use Rattle.std.proofs.Common.{◌≡◌, ℕ, ◌≤◌, Bool, true, false, List, refl, sym, ap, ◌∙◌, inl, inr, ◌⊎◌, arith}
 use Rattle.std.specs.Prelude.{slice_index}
 use Rattle.std.proofs.lemmas.Bool.{false≢true}
@@ -171,7 +171,7 @@ up_side_agrees plan memories steps pair side is ordinary up =
 whole : (pair : PairPlan) → AgreesWith pair.a pair.b → AgreesWith pair.b pair.a → Agree pair
 whole pair first second = record { versions = first.versions; queues = second.queues; windows = second.windows; sizes = (second.size_fits, first.size_fits) }
 
--- After ordinary steps a queue is joined only where the numbers of both sides agree and both sides' windows fit.
+-- After ordinary steps a queue is joined only if the numbers of both sides agree and both sides' windows fit.
 pub joined_means_agreement : JoinedMeansAgreement
 joined_means_agreement plan memories steps pair side queue is ordinary has = go side has
   where

@@ -112,7 +112,7 @@ busy_runs plan lane no_raw = record {
   turns = λ log s made news t tells turn h. busy_kept plan lane s made news t no_raw turn h;
 }
 
--- On an ordinary pair a lane has something left to post only where its queue is joined at the sender.
+-- On an ordinary pair a lane has something left to post only if its queue is joined at the sender.
 pub busy_sender_is_joined : BusySenderIsJoined
 busy_sender_is_joined plan memories steps pair side queue no_raw =
     let lane : LaneName = record { pair = pair; from = side; queue = queue } in always_after plan lane _ (busy_runs plan lane no_raw) memories steps
@@ -155,7 +155,7 @@ entry_runs plan lane no_raw = record {
   turns = λ log s made news t tells turn h. entry_kept plan lane s made news t no_raw turn h;
 }
 
--- On an ordinary pair a receiver has an entry in hand only where the queue is joined on its side.
+-- On an ordinary pair a receiver has an entry in hand only if the queue is joined on its side.
 pub busy_receiver_is_joined : BusyReceiverIsJoined
 busy_receiver_is_joined plan memories steps pair A queue no_raw =
     let lane : LaneName = record { pair = pair; from = B; queue = queue } in always_after plan lane _ (entry_runs plan lane no_raw) memories steps
@@ -305,6 +305,6 @@ all_fit : (steps : List Step) → AllByRecursion (λ step. Unit {0}) steps
 all_fit [] = tt
 all_fit (step ∷ steps) = (tt, all_fit steps)
 
--- After every log a device is stopped only where its queue is joined on its side.
+-- After every log a device is stopped only if its queue is joined on its side.
 pub stopped_device_is_joined : StoppedDeviceIsJoined
 stopped_device_is_joined plan memories steps pair side queue = pair_after plan pair _ StopsJoined (stops_hold plan pair) memories steps (all_fit steps) side queue

@@ -1,5 +1,5 @@
 -- Premise: on the pair ordinary steps alone are made. In a session queues are ready only on a side that is up, and
--- joined only where both sides are up. The bits that a side sees in its scratchpad come from a peer that is up.
+-- joined only if both sides are up. The bits that a side sees in its scratchpad come from a peer that is up.
 use Rattle.std.proofs.Common.{◌≡◌, ℕ, ◌==◌, Bool, true, false, Option, Some, None, List, [], refl, sym, ap, subst, inl, inr, ◌⊎◌}
 use Rattle.std.specs.Prelude.{if◌then◌else◌, slice_get, slice_index, slice_set, nat_lt, remove}
 use Rattle.std.specs.List.{filter_map}

@@ -40,7 +40,7 @@ rings_in plan side = record {
 abbrev pub is_five : PairPlan → Bool
 is_five plan = agreed_version plan == 5
 
--- Where the sides of a pair agree, the peer's windows are no larger than what a side's memory gives for one.
+-- If the sides of a pair agree, the peer's windows are no larger than what a side's memory gives for one.
 pub size_fits : (plan : PairPlan) → Agree plan → (side : Side) → (rings_in plan side).size ≤ (rings_in plan side).cap
 size_fits plan agree A = agree.sizes.1
 size_fits plan agree B = agree.sizes.0

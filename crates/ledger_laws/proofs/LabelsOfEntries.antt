@@ -86,7 +86,7 @@ IsOwn q sent label = IsOnQueue q label → IsOfEntry sent label
 abbrev IsToPost : ℕ → List Entry → Label → Type 0
 IsToPost q sent label = IsOnQueue q label × IsOfEntry sent label
 
--- an index write of this lane is of one of so many entries
+-- an index write of this lane is of one of this many entries
 abbrev IsGiven : ℕ → ℕ → Label → Type 0
 IsGiven q acked label = (n : ℕ) → index_of q label ≡ Some n → n < acked
 

@@ -1,5 +1,5 @@
--- A step is answered `linkdown` exactly where it needs the link and the last link step of the pair that wasn't
--- refused left it not up.
+-- A step is answered `linkdown` if and only if it needs the link and the last link step of the pair that wasn't refused
+-- left it not up.
 use Rattle.std.proofs.Common.{◌≡◌, ℕ, Bool, true, false, not, ◌&&◌, List, refl, sym, ap, ◌∙◌}
 use Rattle.std.specs.Prelude.{if◌then◌else◌}
 use Rattle.std.proofs.lemmas.Bool.{not-false}
@@ -71,7 +71,7 @@ read_answer devs plan reading bytes pair (Wake p side queue dev) =
     wake_cases (λ o. is_link_down o.answer ≡ false) reading (dev_plan devs dev) pair side queue (λ r no. no.link) refl
 read_answer devs plan reading bytes pair step = refl
 
--- A step is answered `linkdown` exactly where it needs the link and the ledger's link of its pair isn't up.
+-- A step is answered `linkdown` if and only if it needs the link and the ledger's link of its pair isn't up.
 pub link_answer : (devs : List DevPlan) (plan : PairPlan) (bytes : Bytes) (pair : PairPart) (step : Step)
     → is_link_down (pair_next devs plan bytes pair step).answer ≡ (needs_link step && not (link_up pair))
 link_answer devs plan bytes pair step = read_answer devs plan (reading_of plan bytes pair) bytes pair step
@@ -104,7 +104,7 @@ up_known plan memories steps pair = always_after plan any _ (link_runs plan any)
     any : LaneName
     any = record { pair = pair; from = A; queue = 0 }
 
--- A step is answered `linkdown` exactly where it needs the link and the log says that its pair's link isn't up.
+-- A step is answered `linkdown` if and only if it needs the link and the log says that its pair's link isn't up.
 pub link_down_where_not_up : LinkDownWhereNotUp
 link_down_where_not_up plan memories steps step answer goes =
     ap is_link_down (answer_of plan memories steps step answer goes)

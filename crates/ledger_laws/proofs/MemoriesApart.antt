@@ -37,6 +37,6 @@ module _ (devs : List DevPlan) (plan : PairPlan) (k : ℕ) where
 pub memories_keep_pairs_apart : MemoriesKeepPairsApart
 memories_keep_pairs_apart plan log pair = ap bytes_of_site (site_from-on plan.devs (pair_plan plan pair) pair log (fresh_site (pair_plan plan pair)))
 
--- Where memories show what was stored, a pair's items of the log are the log of the steps on it alone.
+-- If memories show what was stored, a pair's items of the log are the log of the steps on it alone.
 pub stored_pairs_are_separate : StoredPairsAreSeparate
 stored_pairs_are_separate plan = pairs_are_separate plan (memory_of plan) (memories_keep_pairs_apart plan)

@@ -1,4 +1,4 @@
--- What a step that may be refused comes to: its refusal in turn, or its answer and the new pair.
+-- The result of a step that may be refused: its first refusal, or its answer and the new pair.
 use Rattle.pair_model.specs.Link.{refused_where}
 use Rattle.pair_model.specs.declared.LinkRefusal.{LinkRefusal}
 use Rattle.std.proofs.Common.{◌≡◌, Bool, true, false, Option, Some, None, refl}

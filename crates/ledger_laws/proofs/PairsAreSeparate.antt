@@ -74,6 +74,6 @@ separate_from plan memories apart k (step ∷ steps) =
     ⊎_elim (on_pair plan memories apart k step steps (separate_from plan memories apart k steps)) (off_pair plan memories apart k step steps (separate_from plan memories apart k steps))
     (cases_Bool (subject_of step == k))
 
--- Where memories keep pairs apart, steps on a pair are answered as without the steps on other pairs.
+-- If memories keep pairs apart, steps on a pair are answered as without the steps on other pairs.
 pub pairs_are_separate : PairsAreSeparate
 pairs_are_separate plan memories apart steps pair = separate_from plan memories apart pair steps [] (start plan) (start plan) refl

@@ -1,4 +1,4 @@
--- The pieces of a frame: one at least, of so many bytes each, and joined they are the frame.
+-- The pieces of a frame: one at least, of this many bytes each, and joined they are the frame.
 use Rattle.std.proofs.Common.{◌≡◌, ℕ, zero, suc, ◌<◌, List, ◌∷◌, length, map, refl, ◌∙◌, arith}
 use Rattle.std.proofs.lemmas.List.{length-map}
 use Rattle.lane_model.specs.Lane.{Entry, count_from}

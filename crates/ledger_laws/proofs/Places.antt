@@ -65,7 +65,7 @@ pub before-another : (one other : Origin) → IsBefore one other → (one ≡ ot
 before-another one other (inl less) e = let s = ap (λ (o : Origin). o.session) e in absurd (omega arith)
 before-another one other (inr less) e = let n = ap (λ (o : Origin). o.number) e in absurd (omega (arith, less.1))
 
--- Where one origin is before another on its lane, the test of being the same tells them apart.
+-- If one origin is before another on its lane, the test of being the same tells them apart.
 pub before-differs : (one other : Origin) → IsBefore one other → same_origin one other ≡ false
 before-differs one other less = by (same_origin one other) refl
   where

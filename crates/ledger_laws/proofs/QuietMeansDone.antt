@@ -1,4 +1,4 @@
--- Where nothing is on its way to a receiver and it has seen so, all that was accepted was delivered.
+-- If nothing is on its way to a receiver and it has seen so, all that was accepted was delivered.
 use Rattle.std.proofs.Common.{◌≡◌, Bool, true, false, List, [], ◌∷◌, ◌++◌, length, take, refl, sym, ap, ◌∙◌, subst}
 use Rattle.std.specs.Prelude.{if◌then◌else◌}
 use Rattle.std.proofs.lemmas.Bool.{false≢true}

@@ -1,5 +1,5 @@
--- A step is refused as not ready, closed or busy exactly where its driver knows it. A look alone is answered `empty` or
--- `peerdown`.
+-- A step is refused as not ready, closed or busy if and only if its driver knows it. A look alone is answered `empty`
+-- or `peerdown`.
 use Rattle.std.proofs.Common.{◌≡◌, ℕ, ◌+◌, ◌==◌, Bool, true, false, not, ◌&&◌, ◌||◌, Option, Some, None, List, [], ◌∷◌, ◌++◌, length, map, refl, sym, ap, ◌∙◌, arith}
 use Rattle.std.specs.Prelude.{if◌then◌else◌, nat_lt, slice_get}
 use Rattle.std.proofs.lemmas.Bool.{cond_both, lt-ltb, true≢false}
@@ -92,7 +92,7 @@ busy_of_frame false false true full len most head tail = refl
 busy_of_frame false false false true len most head tail = refl
 busy_of_frame false false false false len most head tail = refl
 
--- something is left to post exactly where writes are
+-- something is left to post if and only if writes are
 busy_left : (todo : List Label) (waiting : List Entry) → (not (is_empty_list todo) || not (is_empty_list waiting)) ≡ nat_lt 0 (length todo + writes_in waiting)
 busy_left [] [] = refl
 busy_left [] (entry ∷ others) = sym (lt-ltb 0 (0 + writes_in (entry ∷ others)) (let more = writes-more entry others in let some = writes-some entry in omega arith))
@@ -580,10 +580,10 @@ neither_after plan memories steps step e = (refl, refl)
 pub not_ready_where_not_joined : NotReadyWhereNotJoined
 not_ready_where_not_joined plan memories steps step answer goes = ap is_not_ready (answer_of plan memories steps step answer goes) ∙ not_ready_after plan memories steps step
 
--- A step that sends or looks is `closed` exactly where the link doesn't stop it and its queue is joined and closed.
+-- A step that sends or looks is `closed` if and only if the link doesn't stop it and its queue is joined and closed.
 pub closed_where_closed : ClosedWhereClosed
 closed_where_closed plan memories steps step answer goes = ap is_closed (answer_of plan memories steps step answer goes) ∙ closed_after plan memories steps step
 
--- A step that sends is `busy` exactly where its side may send, its frame fits and the log has writes left to post.
+-- A step that sends is `busy` if and only if its side may send, its frame fits and the log has writes left to post.
 pub busy_where_left_to_post : BusyWhereLeftToPost
 busy_where_left_to_post plan memories steps step answer goes = ap is_busy_answer (answer_of plan memories steps step answer goes) ∙ busy_after plan memories steps step

@@ -105,7 +105,7 @@ cleared_sized sizes ring n two sized =
       ];
     }
 
--- Where no entry was given back, the tail of a ring of two slots or more is its last slot.
+-- If no entry was given back, the tail of a ring of two slots or more is its last slot.
 pub tail_at_start : (entries : ℕ) → 2 ≤ entries → entries - 1 ≡ tail_of entries 0
 tail_at_start entries two =
     let e : 0 + entries - 1 ≡ entries - 1 = omega arith in

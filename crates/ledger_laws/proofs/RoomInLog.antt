@@ -222,7 +222,7 @@ sum-session f k log made n no_train is =
 nothing-anew : (k : ℕ) (log : List Answered) (made : Answered) → trains k made ≡ true → in_this_session k (log ++ made ∷ []) ≡ []
 nothing-anew k log made train = made_since-last k [] log made ∙ ap (λ t. if t then [] else made_since k [] log ++ made ∷ []) train
 
--- with so many entries more, and with one given back
+-- with this many entries more, and with one given back
 counts_more : (plan : Plan) (lane : LaneName) (log : List Answered) (made : Answered) (n : ℕ) (c : Bool) (begun freed begun_after freed_after : ℕ) → takes_room plan lane made ≡ n → gives_room lane made ≡ c
     → trains lane.pair made ≡ false → begun_after ≡ begun + n → freed_after ≡ freed + (if c then 1 else 0) → Counts plan lane log begun freed
     → Counts plan lane (log ++ made ∷ []) begun_after freed_after
@@ -305,7 +305,7 @@ room_told plan lane log s known open_yet =
     let g = known.takes.within in
     omega arith
 
--- and with an entry of the log that begins so many entries, it is less by those
+-- and with an entry of the log that begins this many entries, it is less by those
 pub room_less : (plan : Plan) (lane : LaneName) (log : List Answered) (made : Answered) (n : ℕ) → takes_room plan lane made ≡ n → gives_room lane made ≡ false → trains lane.pair made ≡ false
     → room_in plan (log ++ made ∷ []) lane ≡ room_in plan log lane - n
 room_less plan lane log made n takes gives no_train =

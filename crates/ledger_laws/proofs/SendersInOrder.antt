@@ -1,4 +1,4 @@
--- A step that sends is refused as too long, stopped and for want of room exactly where the log says so, in this order.
+-- A step that sends is refused as too long, stopped and for want of room if and only if the log says so, in this order.
 use Rattle.std.proofs.Common.{◌≡◌, ℕ, ◌&&◌, Bool, true, false, not, Option, None, List, length, refl, sym, ap, ◌∙◌}
 use Rattle.std.specs.Prelude.{nat_lt}
 use Rattle.std.proofs.lemmas.Bool.{and_parts, cond-false, true≢false}
@@ -124,7 +124,7 @@ not_again : (answer : Answer) → Not answer → is_again answer ≡ false
 not_again (Again head tail) e = absurd (true≢false e)
 not_again answer e = refl
 
--- a second test counts only where the first holds
+-- a second test counts only if the first holds
 guarded : (b x y : Bool) → (b ≡ true → x ≡ y) → (b && x) ≡ (b && y)
 guarded true x y same = same refl
 guarded false x y same = refl
@@ -151,7 +151,7 @@ module _ (plan : Plan) (memories : Memories) (steps : List Step) where
   abbrev After : Step → Answer
   After step = (outcome_in plan (memories (log_of plan memories steps)) (ledger_of plan memories steps) step).answer
 
-  -- by the ledger: the side may send, its frame of so many bytes is too long, its lane is busy, and its device is
+  -- by the ledger: the side may send, its frame of this many bytes is too long, its lane is busy, and its device is
   -- stopped
   abbrev May : ℕ → Side → ℕ → Bool
   May p side queue = link_up (Pair p) && (has_bit (side_of (Pair p) side).joined queue && not (has_bit (side_of (Pair p) side).closed queue))
@@ -328,7 +328,7 @@ module _ (plan : Plan) (memories : Memories) (steps : List Step) where
   again_after (Ack p side queue) no_raw = not_again (After (Ack p side queue)) (others (Ack p side queue) refl)
   again_after step no_raw = refl
 
--- A step that sends is `toolong` exactly where its side may send by the log and its frame is longer than any may be.
+-- A step that sends is `toolong` if and only if its side may send by the log and its frame is longer than any may be.
 pub too_long_where_frame_is_long : TooLongWhereFrameIsLong
 too_long_where_frame_is_long plan memories steps step answer goes = ap is_too_long (answer_of plan memories steps step answer goes) ∙ long_after plan memories steps step
 
@@ -336,6 +336,6 @@ too_long_where_frame_is_long plan memories steps step answer goes = ap is_too_lo
 pub stopped_where_ring_was_low : StoppedWhereRingWasLow
 stopped_where_ring_was_low plan memories steps step answer no_raw goes = ap is_stopped_answer (answer_of plan memories steps step answer goes) ∙ stopped_after plan memories steps step no_raw
 
--- On an ordinary pair a step past all earlier tests is `again` exactly where the log has less room than it needs.
+-- On an ordinary pair a step past all earlier tests is `again` if and only if the log has less room than it needs.
 pub again_where_ring_is_full : AgainWhereRingIsFull
 again_where_ring_is_full plan memories steps step answer no_raw goes = ap is_again (answer_of plan memories steps step answer goes) ∙ again_after plan memories steps step no_raw

@@ -1,4 +1,4 @@
--- Where no switch has a port on a pair, what is made there is what is made without the other pairs' steps.
+-- If no switch has a port on a pair, what is made there is what is made without the other pairs' steps.
 use Rattle.std.proofs.Common.{◌≡◌, ℕ, ◌==◌, Bool, true, false, List, [], ◌∷◌, ◌++◌, Option, Some, None, refl, sym, ap, ◌∙◌, subst, append_assoc}
 use Rattle.std.specs.Prelude.{if◌then◌else◌}
 use Rattle.std.specs.List.{filter}

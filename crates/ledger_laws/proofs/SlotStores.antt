@@ -1,4 +1,4 @@
--- A slot of a ring as it stands in a memory, and what a store at one of the memory's spots makes of it.
+-- A slot of a ring as it is in a memory, and what a store at one of the memory's spots makes of it.
 use Rattle.std.proofs.Common.{◌≡◌, ℕ, ◌+◌, ◌<◌, ◌≤◌, ◌⊎◌, inl, inr, ⊎_elim, Bool, true, false, List, [], ◌∷◌, ◌++◌, length, take, drop, replicate, refl, sym, ap, ◌∙◌, arith}
 use Rattle.std.specs.Prelude.{◌≢◌, ◌^◌, if◌then◌else◌}
 use Rattle.lane_model.specs.Lane.{Slot, overwritten, zeroed_slot}

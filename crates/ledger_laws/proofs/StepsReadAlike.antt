@@ -1,4 +1,4 @@
--- Where the bytes and the ledger show a step the same of the rings, it has the same outcome by both.
+-- If the bytes and the ledger show a step the same of the rings, it has the same outcome by both.
 use Rattle.std.proofs.Common.{◌≡◌, ℕ, ◌-◌, ◌<◌, ◌&&◌, Bool, true, false, not, Option, None, List, [], ◌∷◌, ◌++◌, length, refl, ap}
 use Rattle.std.specs.Prelude.{if◌then◌else◌, nat_lt}
 use Rattle.step_kinds.specs.Bits.{has_bit}

@@ -1,4 +1,4 @@
--- A device is stopped in the ledger exactly where it is by the log. Where it is stopped its side hasn't forgotten the
+-- A device is stopped in the ledger if and only if it is by the log. If it is stopped its side hasn't forgotten the
 -- session, so that the log knows the room of its ring.
 use Rattle.std.proofs.Common.{◌≡◌, ℕ, ◌-◌, ◌==◌, ◌&&◌, ◌||◌, Bool, true, false, List, [], ◌∷◌, ◌++◌, length, refl, sym, ap, ◌∙◌, append_assoc}
 use Rattle.std.specs.Prelude.{if◌then◌else◌, nat_lt}

@@ -86,7 +86,7 @@ module _ {A : Type 0} (P : A → Type 0) where
   all-mapped f [] h = tt
   all-mapped f (x ∷ xs) h = (h.0, all-mapped f xs h.1)
 
--- Where one property implies another, a list whose items all have the first has the second of all of them.
+-- If one property implies another, a list whose items all have the first has the second of all of them.
 pub all-weaker : {A : Type 0} (P Q : A → Type 0) → ((x : A) → P x → Q x) → (xs : List A) → AllByRecursion P xs → AllByRecursion Q xs
 all-weaker P Q weaker [] h = tt
 all-weaker P Q weaker (x ∷ xs) h = (weaker x h.0, all-weaker P Q weaker xs h.1)

@@ -129,7 +129,7 @@ module _ (plan : Plan) (memories : Memories) where
   long_from net [] h = h
   long_from net (step ∷ steps) h = long_from (next_network bytes_kept plan memories net step) steps (long_after net step (action_of plan net.switches step) h)
 
--- Where each frame that waits in a switch has an Ethernet header, each does after any further step.
+-- If each frame that waits in a switch has an Ethernet header, each does after any further step.
 pub headers_stay : HeadersStay
 headers_stay plan memories net step h = long_after plan memories net step (action_of plan net.switches step) h
 

@@ -54,13 +54,13 @@ write_has_window plan agree is side queue (Down q n) on = queue_has_window plan 
 write_has_window plan agree is side queue (Bell q) on = some_window plan is side
 write_has_window plan agree is side queue label on = absurd (false≢true on)
 
--- Where the sides of a declared pair agree, the peer has the window that a queue's index writes go through.
+-- If the sides of a declared pair agree, the peer has the window that a queue's index writes go through.
 pub index_has_window : (plan : PairPlan) → Agree plan → IsPair plan → (side : Side) (queue n : ℕ) → has_window plan side (Index queue n) ≡ true
 index_has_window plan agree is side queue n = queue_has_window plan agree is side queue
 
 -- A sender's room
 
--- Where the index word is the tail, the free entries that it shows with the head are the room by counts.
+-- If the index word is the tail, the free entries that it shows with the head are the room by counts.
 pub room_is_read : (entries begun freed word : ℕ) → 2 ≤ entries → freed ≤ begun → begun + 1 ≤ freed + entries → word ≡ tail_of entries freed
     → free_in_memory entries (head_of entries begun) word ≡ room_of entries begun freed
 room_is_read entries begun freed word two low room is =

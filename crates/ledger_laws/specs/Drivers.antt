@@ -75,7 +75,7 @@ driver_start plan own =
 abbrev pub driver_after : Plan → List Answered → LaneName → Driver
 driver_after plan log own = fold (driver_next plan own) (driver_start plan own) log
 
--- Refusals, each exactly where the log says so
+-- Refusals, each if and only if the log says so
 
 abbrev pub is_not_ready : Answer → Bool
 is_not_ready NotReady = true

@@ -83,7 +83,7 @@ entries_needed plan lane step = 1
 abbrev pub sender_refused : PairPart → Side → ℕ → Bool
 sender_refused now side queue = not (link_up now) || (not (has_bit (side_of now side).joined queue) || has_bit (side_of now side).closed queue)
 
--- where it may send no frame of so many bytes: it is longer than any may be, or of the frame before it something is
+-- where it may send no frame of this many bytes: it is longer than any may be, or of the frame before it something is
 -- left to post
 abbrev pub frame_refused : Sizes → PairPart → Side → ℕ → ℕ → Bool
 frame_refused sizes now side queue len = sender_refused now side queue || (nat_lt sizes.most len || is_busy (lane_of now side queue))
@@ -105,7 +105,8 @@ is_again answer = false
 abbrev pub GoesOn : Plan → Memories → List Step → Step → Answer → Type 0
 GoesOn plan memories steps step answer = log_of plan memories (steps ++ step ∷ []) ≡ log_of plan memories steps ++ record { step = step; answer = answer } ∷ []
 
--- `again` comes exactly where the step isn't refused for another reason, and the ring has less room than the step needs
+-- `again` is returned if and only if the step isn't refused for another reason, and the ring has less room than the
+-- step needs
 abbrev pub AgainWhereNoRoom : Type 0
 AgainWhereNoRoom = (plan : Plan) (memories : Memories) (steps : List Step) (step : Step) (answer : Answer) (lane : LaneName) →
     IsOrdinaryPair plan lane.pair → lane_begun_by step ≡ Some lane → GoesOn plan memories steps step answer →
@@ -126,7 +127,7 @@ abbrev pub is_link_down : Answer → Bool
 is_link_down LinkDown = true
 is_link_down answer = false
 
--- `linkdown` comes exactly on those, exactly where the pair's link isn't up by the log (`up_at`)
+-- `linkdown` comes exactly on those, if and only if the pair's link isn't up by the log (`up_at`)
 abbrev pub LinkDownWhereNotUp : Type 0
 LinkDownWhereNotUp = (plan : Plan) (memories : Memories) (steps : List Step) (step : Step) (answer : Answer) → GoesOn plan memories steps step answer →
     is_link_down answer ≡ (needs_link step && not (up_at plan (subject_of step) (log_of plan memories steps)))
@@ -256,11 +257,11 @@ PostedAreWrites = (plan : Plan) (memories : Memories) (steps : List Step) (lane 
 
 -- Parts
 
--- how many parts an entry of so many bytes has
+-- how many parts an entry of this many bytes has
 abbrev pub parts_in : ℕ → ℕ
 parts_in len = max 1 (chunks_in len)
 
--- this part of an entry was answered `copied`: it is the next one of the entry that was found last. Where it is the
+-- this part of an entry was answered `copied`: it is the next one of the entry that was found last. If it is the
 -- entry's last part, the entry is followed by others of its frame.
 pub record FitsPart (looked : Option Looked) (left number part : ℕ) : Type 0 where
   pub len : ℕ
@@ -269,7 +270,7 @@ pub record FitsPart (looked : Option Looked) (left number part : ℕ) : Type 0 w
   pub followed : part + 1 ≡ parts_in len → 0 < left
 
 -- a copy was answered `frame` with this number: it is the last part of the entry that was found last, which no other of
--- its frame follows. So many frames were delivered before in the session.
+-- its frame follows. This many frames were delivered before in the session.
 pub record FitsFrame (looked : Option Looked) (left given number : ℕ) : Type 0 where
   pub found : Looked
   pub of_found : looked ≡ Some found

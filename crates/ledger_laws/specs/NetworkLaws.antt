@@ -65,8 +65,8 @@ item_after plan memories steps step = next_item bytes_kept plan memories (networ
 abbrev pub bridge_ledger : Plan → Memories → List Step → Ledger
 bridge_ledger plan memories steps = ledger_of plan memories (bridge_steps plan memories steps)
 
--- an item that begins entries has `again` exactly where it isn't refused for another reason, and the ring has less room
--- than it needs
+-- an item that begins entries has `again` if and only if it isn't refused for another reason, and the ring has less
+-- room than it needs
 abbrev pub ItemsAgainWhereNoRoom : Type 0
 ItemsAgainWhereNoRoom = (plan : Plan) (memories : Memories) (steps : List Step) (step : Step) (lane : LaneName) →
     let made = item_after plan memories steps step in
@@ -75,7 +75,7 @@ ItemsAgainWhereNoRoom = (plan : Plan) (memories : Memories) (steps : List Step) 
     ≡ (not (refused_earlier plan (bridge_ledger plan memories steps lane.pair) made.step)
     && nat_lt (room_in plan (switch_log plan memories steps) lane) (entries_needed plan lane made.step))
 
--- An item has `linkdown` exactly where it needs a link that isn't up. The last link step of its pair that wasn't
+-- An item has `linkdown` if and only if it needs a link that isn't up. The last link step of its pair that wasn't
 -- refused says so, and the plan where there is none.
 abbrev pub ItemsLinkDownWhereNotUp : Type 0
 ItemsLinkDownWhereNotUp = (plan : Plan) (memories : Memories) (steps : List Step) (step : Step) →
@@ -93,7 +93,7 @@ PairsWithoutPortsAreSeparate = (plan : Plan) (memories : Memories) → KeepsPair
 
 -- Origins
 
--- with origins in its switches a network comes to the same, but for the origins
+-- with origins in its switches a network is the same but for the origins
 abbrev pub OriginsChangeNothing : Type 0
 OriginsChangeNothing = (plan : Plan) (memories : Memories) (steps : List Step) →
     (items_from origins_kept plan memories (new_network plan) steps ≡ switch_log plan memories steps)

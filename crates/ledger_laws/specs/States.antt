@@ -27,7 +27,7 @@ use Rattle.ledger_laws.specs.Laws.{IsOrdinaryOn, IsOrdinaryPair, has_forgotten}
 
 -- The entries of a lane
 
--- each entry of a list has so many bytes at most
+-- each entry of a list has this many bytes at most
 abbrev pub AreWithin : ℕ → List Entry → Type 0
 AreWithin largest entries = (n : ℕ) → n < length entries → length (bytes_of (slice_index_or entries n GoesDown)) ≤ largest
 
@@ -159,17 +159,17 @@ abbrev pub JoinedSideIsUp : Type 0
 JoinedSideIsUp = (plan : Plan) (memories : Memories) (steps : List Step) (pair : ℕ) (side : Side) (queue : ℕ) →
     has_bit (side_of (ledger_of plan memories steps pair) side).joined queue ≡ true → (side_of (ledger_of plan memories steps pair) side).up ≡ true
 
--- a device is stopped only where its queue is joined on its side
+-- a device is stopped only if its queue is joined on its side
 abbrev pub StoppedDeviceIsJoined : Type 0
 StoppedDeviceIsJoined = (plan : Plan) (memories : Memories) (steps : List Step) (pair : ℕ) (side : Side) (queue : ℕ) →
     (dev_of (ledger_of plan memories steps pair) side queue).stopped ≡ true → has_bit (side_of (ledger_of plan memories steps pair) side).joined queue ≡ true
 
--- a lane has something left to post only where its queue is joined at its sender
+-- a lane has something left to post only if its queue is joined at its sender
 abbrev pub BusySenderIsJoined : Type 0
 BusySenderIsJoined = (plan : Plan) (memories : Memories) (steps : List Step) (pair : ℕ) (side : Side) (queue : ℕ) → IsOrdinaryPair plan pair →
     is_busy (lane_of (ledger_of plan memories steps pair) side queue) ≡ true → has_bit (side_of (ledger_of plan memories steps pair) side).joined queue ≡ true
 
--- a receiver has an entry in hand only where the queue is joined there
+-- a receiver has an entry in hand only if the queue is joined there
 abbrev pub BusyReceiverIsJoined : Type 0
 BusyReceiverIsJoined = (plan : Plan) (memories : Memories) (steps : List Step) (pair : ℕ) (side : Side) (queue : ℕ) → IsOrdinaryPair plan pair →
     is_idle (lane_to (ledger_of plan memories steps pair) side queue).phase ≡ false → has_bit (side_of (ledger_of plan memories steps pair) side).joined queue ≡ true
@@ -181,8 +181,8 @@ abbrev pub FreedWereBegun : Type 0
 FreedWereBegun = (plan : Plan) (memories : Memories) (steps : List Step) (pair : ℕ) (from : Side) (queue : ℕ) → IsOrdinaryPair plan pair →
     (lane_of (ledger_of plan memories steps pair) from queue).freed ≤ length (lane_of (ledger_of plan memories steps pair) from queue).sent
 
--- a receiver that copies an entry knows how many bytes it has. Where an idle one of a joined queue has an entry before
--- it, its frame's bytes so far are with the entry's no more than a frame may have.
+-- a receiver that copies an entry knows how many bytes it has. If an idle one of a joined queue has an entry before it,
+-- its frame's bytes so far are with the entry's no more than a frame may have.
 pub record KnowsItsFrame (most queue joined : ℕ) (lane : LanePart) : Type 0 where
   pub len_is : is_copying lane.phase ≡ true → lane.len ≡ length (bytes_of (entry_in lane lane.got))
   pub fits : has_bit joined queue ≡ true → is_idle lane.phase ≡ true → lane.got < length lane.sent → length lane.gathered + length (bytes_of (entry_in lane lane.got)) ≤ most

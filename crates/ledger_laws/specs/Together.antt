@@ -91,7 +91,7 @@ pub record HoldsLaws (plan : Plan) (memories : Memories) (steps : List Step) : T
 
 -- Of the answer to one step more: it says nothing but what the log so far says
 pub record IsRightAnswer (plan : Plan) (memories : Memories) (steps : List Step) (step : Step) (answer : Answer) : Type 0 where
-  -- these refusals come exactly where the log says so; of those that several tests give, the earlier one in this order
+  -- these refusals come if and only if the log says so; of those that several tests give, the earlier one in this order
   pub link_down : is_link_down answer ≡ (needs_link step && not (up_at plan (subject_of step) (log_of plan memories steps)))
   pub not_ready : is_not_ready answer ≡ lacks_queue plan (log_of plan memories steps) step
   pub closed : is_closed answer ≡ finds_closed plan (log_of plan memories steps) step

@@ -36,7 +36,7 @@ pub fn memories_keep_pairs_apart()
     ensures { MemoriesKeepPairsApart }
 {}
 
-/// Where memories show what was stored, the answers to the steps on one pair are those of the list without the steps on
+/// If memories show what was stored, the answers to the steps on one pair are those of the list without the steps on
 /// other pairs. No premise: it holds on raw pairs too.
 pub fn stored_pairs_are_separate()
     ensures { StoredPairsAreSeparate }

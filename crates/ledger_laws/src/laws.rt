@@ -59,7 +59,7 @@ pub fn every_frame_comes_once()
     ensures { EveryFrameComesOnce }
 {}
 
-/// A step that begins entries is answered `again` exactly where it isn't refused for another reason and the room is
+/// A step that begins entries is answered `again` if and only if it isn't refused for another reason and the room is
 /// less than it needs. The other reasons are:
 ///
 /// - The link isn't up.
@@ -74,23 +74,23 @@ pub fn again_where_no_room()
     ensures { AgainWhereNoRoom }
 {}
 
-/// A step that needs the link is answered `linkdown` exactly where the last link step of the pair that wasn't refused
+/// A step that needs the link is answered `linkdown` if and only if the last link step of the pair that wasn't refused
 /// left it not up, and no other step is. Before the first of them the link is as the pair was declared. No premise.
 pub fn link_down_where_not_up()
     ensures { LinkDownWhereNotUp }
 {}
 
-/// A step that begins entries is answered `notready` exactly where the link is up and its queue isn't joined on the
-/// side. A look is answered so exactly where its queue isn't joined there, and a join exactly where the link is up and
-/// its queue isn't ready there. No other step is answered so. What is joined and ready is taken from what the log told
-/// the side's driver. No premise.
+/// A step that begins entries is answered `notready` if and only if the link is up and its queue isn't joined on the
+/// side. A look is answered so if and only if its queue isn't joined there, and a join if and only if the link is up
+/// and its queue isn't ready there. No other step is answered so. What is joined and ready is taken from what the log
+/// told the side's driver. No premise.
 pub fn not_ready_where_not_joined()
     ensures { NotReadyWhereNotJoined }
 {}
 
-/// A look is answered `closed` exactly where its queue is joined on the side and closed there since. A step that begins
-/// entries is answered so exactly where that holds and the link is up. A queue is closed on a side by a link-down entry
-/// that the side began or found. No premise.
+/// A look is answered `closed` if and only if its queue is joined on the side and closed there since. A step that
+/// begins entries is answered so if and only if that holds and the link is up. A queue is closed on a side by a
+/// link-down entry that the side began or found. No premise.
 pub fn closed_where_closed()
     ensures { ClosedWhereClosed }
 {}
@@ -101,23 +101,23 @@ pub fn too_long_where_frame_is_long()
     ensures { TooLongWhereFrameIsLong }
 {}
 
-/// A step that begins entries is answered `busy` exactly where some writes of what the side began there aren't posted
-/// yet, and no earlier refusal holds. There is none exactly where the link is up, the queue is joined on the side and
+/// A step that begins entries is answered `busy` if and only if some writes of what the side began there aren't posted
+/// yet, and no earlier refusal holds. There is none if and only if the link is up, the queue is joined on the side and
 /// isn't closed, and the frame isn't too long. No premise.
 pub fn busy_where_left_to_post()
     ensures { BusyWhereLeftToPost }
 {}
 
-/// A look is answered `empty` exactly where the side may look and as many entries have landed flags in the session as
-/// the side cleared. It may look exactly where the queue is joined on the side and isn't closed, and the side holds no
+/// A look is answered `empty` if and only if the side may look and as many entries have landed flags in the session as
+/// the side cleared. It may look if and only if the queue is joined on the side and isn't closed, and the side holds no
 /// entry of it. Premise: the pair is ordinary.
 pub fn empty_where_nothing_landed()
     ensures { EmptyWhereNothingLanded }
 {}
 
-/// A look is answered `peerdown` exactly where the side may look, more entries have landed flags in the session than it
-/// cleared, and the next one's are a link-down entry's. When it may look, [`empty_where_nothing_landed`] says. Premise:
-/// the pair is ordinary.
+/// A look is answered `peerdown` if and only if the side may look, more entries have landed flags in the session than
+/// it cleared, and the next one's are a link-down entry's. When it may look, [`empty_where_nothing_landed`] says.
+/// Premise: the pair is ordinary.
 pub fn peer_down_where_down_landed()
     ensures { PeerDownWhereDownLanded }
 {}
@@ -132,7 +132,7 @@ pub fn stopped_where_ring_was_low()
     ensures { StoppedWhereRingWasLow }
 {}
 
-/// A step that begins entries is answered `again` exactly where fewer entries are free than it needs and no earlier
+/// A step that begins entries is answered `again` if and only if fewer entries are free than it needs and no earlier
 /// refusal holds: this is [`again_where_no_room`] by the log alone. The link is up, the queue is joined and open on the
 /// side, the frame isn't too long, nothing is left to post, and the device isn't stopped. Premise: the pair is
 /// ordinary.
@@ -190,9 +190,9 @@ pub fn up_means_agreement()
     ensures { UpMeansAgreement }
 {}
 
-/// Where nothing is on its way to a receiver and it has seen so, all that was accepted in the session was delivered.
-/// Each entry that was begun has its flags landed, and was copied whole.
-/// Premises: the pair is ordinary, and at that moment all of this is so:
+/// If nothing is on its way to a receiver and it has seen so, all that was accepted in the session was delivered. Each
+/// entry that was begun has its flags landed, and was copied whole. Premises: the pair is ordinary, and at that moment
+/// all of this is so:
 ///
 /// - The link is up.
 /// - The queue is joined and open at the receiver.
@@ -205,7 +205,7 @@ pub fn quiet_means_done()
 {}
 
 /// A step that is refused leaves every pair as it was, but for a device's count of refusals: that grows where the
-/// device's frame is refused. A step is refused exactly where it is answered anything but what a step of its kind is
+/// device's frame is refused. A step is refused if and only if it is answered anything but what a step of its kind is
 /// answered where it is made. So `idle`, `nothing`, `blocked`, `empty`, `verdiffers` and `long` change nothing either;
 /// `peerdown` is no refusal, for it closes the queue. No premise: it holds on raw pairs too.
 pub fn refusals_change_nothing()
@@ -227,8 +227,8 @@ pub fn index_word_is_tail()
     ensures { IndexWordIsTail }
 {}
 
-/// Whenever both sides of a pair are up, the law of the ring holds of each of its lanes, with the index word as it
-/// stands in memory. Premises: as of [`ring_law_of_receiver`].
+/// Whenever both sides of a pair are up, the law of the ring holds of each of its lanes, with the index word as it is
+/// in memory. Premises: as of [`ring_law_of_receiver`].
 pub fn ring_law_holds()
     ensures { RingLawHolds }
 {}
@@ -291,19 +291,19 @@ pub fn joined_side_is_up()
     ensures { JoinedSideIsUp }
 {}
 
-/// A device is stopped only where its queue is joined on its side: a side that forgets its session starts its devices.
-/// No premise.
+/// A device is stopped only if its queue is joined on its side: a side that forgets its session starts its devices. No
+/// premise.
 pub fn stopped_device_is_joined()
     ensures { StoppedDeviceIsJoined }
 {}
 
-/// Of a lane an entry waits, or a write is left to post, only where the queue is joined at the sender. Premise: the
-/// pair isn't declared raw.
+/// Of a lane an entry waits, or a write is left to post, only if the queue is joined at the sender. Premise: the pair
+/// isn't declared raw.
 pub fn busy_sender_is_joined()
     ensures { BusySenderIsJoined }
 {}
 
-/// A receiver copies an entry, or has one that it hasn't given back yet, only where the queue is joined on its side.
+/// A receiver copies an entry, or has one that it hasn't given back yet, only if the queue is joined on its side.
 /// Premise: the pair isn't declared raw.
 pub fn busy_receiver_is_joined()
     ensures { BusyReceiverIsJoined }
@@ -314,7 +314,7 @@ pub fn freed_were_begun()
     ensures { FreedWereBegun }
 {}
 
-/// A receiver that copies an entry knows how many bytes the entry has. Where an idle one of a joined queue has an entry
+/// A receiver that copies an entry knows how many bytes the entry has. If an idle one of a joined queue has an entry
 /// before it, its frame's bytes so far are with the entry's no more than a frame may have. Premise: the pair isn't
 /// declared raw.
 pub fn receiver_knows_its_frame()
@@ -346,10 +346,10 @@ pub fn lane_part_lands()
 /// Each step of a cluster is steps of a lane. The lane that the ledger shows after it comes from the one before it by
 /// steps of the lane's model, each made where its own condition holds. The step and its answer say which (`change_of`):
 /// none where the step is refused, of another lane, or of none. A begin, a landing, a look, a copy, a clear, an ack, a
-/// break and a drop are one each. A post is one too; but where a piece of a frame waits, its first post begins it
-/// before. What is posted on a link that isn't up is lost. Premises: as of [`ring_law_of_receiver`], of the steps
-/// before that one; and both sides of the pair are up before it and after it. That leaves out a train, a clean that is
-/// made, and a check that brings a side up.
+/// break and a drop are one each. A post is one too; but if a piece of a frame waits, its first post begins it before.
+/// What is posted on a link that isn't up is lost. Premises: as of [`ring_law_of_receiver`], of the steps before that
+/// one; and both sides of the pair are up before it and after it. That leaves out a train, a clean that is made, and a
+/// check that brings a side up.
 pub fn each_step_is_of_the_lane()
     ensures { EachStepIsOfTheLane }
 {}

@@ -52,13 +52,13 @@ pub fn frames_come_once()
     ensures { FramesComeOnce }
 {}
 
-/// An item that begins entries is answered `again` exactly where it isn't refused for another reason and the room is
+/// An item that begins entries is answered `again` if and only if it isn't refused for another reason and the room is
 /// less than it needs. An `xnext` that begins a frame is such an item. Premise: the pair is ordinary.
 pub fn items_again_where_no_room()
     ensures { ItemsAgainWhereNoRoom }
 {}
 
-/// An item that needs the link is answered `linkdown` exactly where the link isn't up, and no other item is. The last
+/// An item that needs the link is answered `linkdown` if and only if the link isn't up, and no other item is. The last
 /// link step of the pair that wasn't refused says so, and the declaration where there is none. No premise.
 pub fn items_link_down_where_not_up()
     ensures { ItemsLinkDownWhereNotUp }
@@ -70,8 +70,8 @@ pub fn pairs_without_ports_are_separate()
     ensures { PairsWithoutPortsAreSeparate }
 {}
 
-/// Where each frame in a switch has its origin, each step is answered as where it is its bytes alone. The network comes
-/// to the same then, but for the origins. No premise.
+/// If each frame in a switch has its origin, each step is answered as where it is its bytes alone. The network is the
+/// same then but for the origins. No premise.
 pub fn origins_change_nothing()
     ensures { OriginsChangeNothing }
 {}
@@ -81,7 +81,7 @@ pub fn waiting_have_headers()
     ensures { WaitingHaveHeaders }
 {}
 
-/// Where each waiting frame of a network has at least 14 bytes, it is so after each step. No other premise.
+/// If each waiting frame of a network has at least 14 bytes, it is so after each step. No other premise.
 pub fn headers_stay()
     ensures { HeadersStay }
 {}

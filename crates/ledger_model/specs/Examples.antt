@@ -247,7 +247,7 @@ abbrev pub SessionsCountUp : Type 0
 SessionsCountUp =
     (ledger_of (plan_of small_pair []) no_memory (Break 0 ∷ DropDone 0 ∷ Clean 0 A ∷ Clean 0 B ∷ Enable 0 A ∷ Enable 0 B ∷ Train 0 ∷ []) 0).link.session ≡ 2
 
--- what a sender reads of its room: on a raw pair its index word as it stands in memory, and on any other the ledger
+-- what a sender reads of its room: on a raw pair its index word as it is in memory, and on any other the ledger
 abbrev pub nines : Side → ℕ → ℕ → List ℕ
 nines = λ side at len. replicate len 9
 

@@ -125,7 +125,7 @@ ForgedOffer =
     answers (record raw_pair { up = false }) (Enable 0 A ∷ Enable 0 B ∷ Train 0 ∷ Spad 0 B 0 4 ∷ Spad 0 B 2 1 ∷ Spad 0 B 3 1 ∷ land_all 0 B 3 ++ Check 0 A ∷ [])
     ≡ Done ∷ Done ∷ OkSession 1 ∷ Done ∷ Done ∷ Done ∷ Landed (Pad 0 4) ∷ Landed (Pad 2 1) ∷ Landed (Pad 3 1) ∷ Up ∷ []
 
--- a frame that is overwritten between two copies comes as it stands at each
+-- a frame that is overwritten between two copies comes as it is at each
 abbrev pub OverwrittenWhileCopied : Type 0
 OverwrittenWhileCopied =
     drop 11

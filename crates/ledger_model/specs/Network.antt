@@ -1,4 +1,4 @@
--- A network: the bridges of a plan and its switches. One fold over the plan's steps says what each comes to, where
+-- A network: the bridges of a plan and its switches. One fold over the plan's steps says what each results in, where
 -- frames in switches are kept in one way or another.
 use Rattle.std.specs.Prelude.{ℕ, ◌+◌, List, [], ◌∷◌, ◌++◌, Option, Some, None, count_by}
 use Rattle.step_kinds.specs.Sides.{other_side}
@@ -25,7 +25,7 @@ pub record Network (F : Type 0) : Type 0 where
 abbrev pub new_network : {F : Type 0} → Plan → Network F
 new_network plan = record { steps = []; switches = new_switches plan; passages = [] }
 
--- What a step comes to
+-- The result of a step
 
 pub data Action (F : Type 0) : Type 0 where
   -- a switch relays the first frame that arrived on a port
@@ -98,7 +98,7 @@ module _ {F : Type 0} (keeping : Keeping F) (plan : Plan) (memories : Memories) 
       (keeping.keep (record { lane = lane; session = session pair; number = number }) frame)
   switches_reached switches session step answer = switches
 
-  -- the item of the log for a step that comes to this
+  -- the item of the log for a step with this result
   abbrev pub item_of : Network F → Step → Action F → Answered
   item_of net step (Relays port) = record { step = step; answer = answer_of (relay_answer keeping.bytes_of (switch_of net.switches port) port.place) }
   item_of net step Rests = record { step = step; answer = Nothing }

@@ -112,7 +112,7 @@ Ledger = ℕ → PairPart
 abbrev pub start : Plan → Ledger
 start plan = λ k. fresh_pair (pair_plan plan k)
 
--- what a step comes to in a ledger; the pairs that it isn't made on stay as they are
+-- the result of a step in a ledger; the pairs that it isn't made on stay as they are
 abbrev pub outcome_in : Plan → (ℕ → Bytes) → Ledger → Step → Outcome
 outcome_in plan bytes ledger step = pair_next plan.devs (pair_plan plan (subject_of step)) (bytes (subject_of step)) (ledger (subject_of step)) step
 

@@ -1,4 +1,4 @@
--- What a step comes to: an answer, and the pair after it. A step that is refused answers its first refusal.
+-- The result of a step: an answer, and the pair after it. A step that is refused answers its first refusal.
 use Rattle.std.specs.Prelude.{Bool, true, false, Option, Some, None}
 use Rattle.step_kinds.specs.declared.steps.Answer.{Answer}
 use Rattle.step_kinds.specs.declared.steps.Answer.TheVariants.{Nothing}

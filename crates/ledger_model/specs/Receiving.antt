@@ -69,7 +69,7 @@ land_step plan pair side place = land_found plan pair side place (slice_get (sid
 abbrev pub closes : PairPart → Side → ℕ → PairPart
 closes pair side queue = with_side_part pair side (record (side_of pair side) { closed = with_bit (side_of pair side).closed queue })
 
--- what a look comes to by what it finds: a link-down entry closes the queue on this side
+-- the result of a look by what it finds: a link-down entry closes the queue on this side
 abbrev pub look_at : PairPart → Side → ℕ → Found → Outcome
 look_at pair side queue NoEntry = record { answer = Empty; after = pair }
 look_at pair side queue ALinkDownEntry = record { answer = PeerDown; after = closes pair side queue }
@@ -105,7 +105,7 @@ counts_delivered pair side queue len =
     with_dev (with_tally pair (other_side side) queue session (record tally { delivered = tally.delivered + 1 })) side queue
     (record dev { counters = count_delivered dev.counters len })
 
--- What a copy comes to, with the bytes of the frame that are copied then: the next part of the entry. With the last
+-- The result of a copy, with the bytes of the frame that are copied then: the next part of the entry. With the last
 -- part the entry is copied whole, and with the last entry of a frame the whole frame is delivered.
 abbrev pub copy_of : PairPart → Side → ℕ → LanePart → List ℕ → Outcome
 copy_of pair side queue lane gathered =

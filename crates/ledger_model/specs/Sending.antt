@@ -38,18 +38,18 @@ is_busy lane = not (is_empty_list lane.todo) || not (is_empty_list lane.waiting)
 abbrev pub refuse_busy : LanePart → Option Answer → Option Answer
 refuse_busy lane later = refuse_if (is_busy lane) Busy later
 
--- the ring has not so many entries free
+-- the ring has not this many entries free
 abbrev pub refuse_full : Sizes → Reading → LanePart → Side → ℕ → ℕ → Option Answer → Option Answer
 refuse_full sizes reading lane side queue needed later =
     refuse_if (nat_lt (reading.free side queue) needed) (Again (head_in sizes lane) (reading.index_word side queue)) later
 
--- the tests of a beginning that takes so many entries
+-- the tests of a beginning that takes this many entries
 abbrev pub entries_refuse : Sizes → Reading → PairPart → Side → ℕ → ℕ → Test → Option Answer → Option Answer
 entries_refuse sizes reading pair side queue needed OfBusy later = refuse_busy (lane_of pair side queue) later
 entries_refuse sizes reading pair side queue needed OfRoom later = refuse_full sizes reading (lane_of pair side queue) side queue needed later
 entries_refuse sizes reading pair side queue needed test later = sender_refuses pair side queue test later
 
--- the tests of a frame of so many bytes
+-- the tests of a frame of this many bytes
 abbrev pub frame_refuses : Sizes → Reading → PairPart → Side → ℕ → ℕ → Test → Option Answer → Option Answer
 frame_refuses sizes reading pair side queue len OfLength later = refuse_long len sizes.most later
 frame_refuses sizes reading pair side queue len test later = entries_refuse sizes reading pair side queue (pieces_in sizes.largest len) test later

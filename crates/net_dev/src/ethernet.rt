@@ -37,7 +37,7 @@ pub struct Short {
 ///
 /// # Errors
 ///
-/// [`AllocError`] only when out of memory.
+/// [`AllocError`] if memory runs out.
 pub fn encode(
     alloc: Global,
     dst: [u8; 6],
@@ -61,7 +61,7 @@ pub fn encode(
 ///
 /// # Errors
 ///
-/// [`Short`], with the number of bytes, exactly where these are fewer than 14.
+/// [`Short`], with the number of bytes, if and only if these are fewer than 14.
 pub fn decode(bytes: &[u8]) -> Result<Header, Short>
     requires { length bytes.now ≤ most_frame_bytes }
     ensures exact { IsErr result ↔ (length bytes.now < ethernet_header) }

@@ -47,8 +47,8 @@ impl Flow {
         }
     }
 
-    /// Lets the device go on, unless it is stopped and fewer than `start` entries are free. Answers `true` exactly
-    /// where the device isn't stopped afterwards.
+    /// Lets the device go on, unless it is stopped and fewer than `start` entries are free. Returns `true` if and only
+    /// if the device isn't stopped afterwards.
     pub fn try_wake(&mut self, free: u32) -> bool
         ensures answer { result ≡ not (stays_stopped self.old free) }
         ensures after { self.new ≡ with_stopped self.old (stays_stopped self.old free) }

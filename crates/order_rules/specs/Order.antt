@@ -22,7 +22,7 @@ pub record Order : Type 0 where
 abbrev pub passes : Order → Order → Bool
 passes later earlier = may_pass later.kind earlier.kind || not (later.class == earlier.class)
 
--- whether this write may land where these stand before it: it passes each of them. Where no write stands, none lands
+-- whether this write may land where these stand before it: it passes each of them. If no write stands, none lands
 abbrev pub lands_behind : Option Order → List Order → Bool
 lands_behind None before = false
 lands_behind (Some write) before = list_all (passes write) before

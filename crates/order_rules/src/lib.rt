@@ -48,9 +48,9 @@ impl<const K: usize> OrderTable<K> {
         self.rows[later][earlier]
     }
 
-    /// Whether a later transaction of one kind and traffic class may pass an earlier one of another. It may exactly
-    /// where the table says so of the kinds, or where the classes differ, since between different traffic classes no
-    /// order holds (PCI Express Base 4.0, section 2.4). Both kinds are below `K`.
+    /// Whether a later transaction of one kind and traffic class may pass an earlier one of another. It may if and only
+    /// if the table says so of the kinds, or where the classes differ, since between different traffic classes no order
+    /// holds (PCI Express Base 4.0, section 2.4). Both kinds are below `K`.
     pub fn passes(&self, later: usize, later_class: u32, earlier: usize, earlier_class: u32) -> bool
         requires later_in_table { later < K }
         requires earlier_in_table { earlier < K }
@@ -96,9 +96,9 @@ pub fn posted_table() -> OrderTable<2>
 /// The table of posted writes, read requests and completions, over the kinds [`RELAXED`], [`STRICT`],
 /// [`READ_REQUEST`] and [`COMPLETION`], none of them with relaxed ordering but the relaxed writes.
 ///
-/// A posted write is passed by relaxed posted writes alone: a strict write, a read request and a completion wait for
-/// it (PCI Express Base 4.0, section 2.4). Everything passes a read request. Everything passes a completion but
-/// another completion. Where the standard leaves a choice, this is the choice that is made here.
+/// A posted write is passed by relaxed posted writes alone: a strict write, a read request and a completion wait for it
+/// (PCI Express Base 4.0, section 2.4). Everything passes a read request. Everything passes a completion but another
+/// completion. If the standard leaves a choice, this is the choice that is made here.
 pub fn full_table() -> OrderTable<4>
     ensures { (later earlier : ℕ) → later < 4 → earlier < 4 → answer_at result later earlier ≡ may_overtake later earlier }
 {

@@ -14,7 +14,7 @@ use Rattle.pair_model.specs.Plans.{side_plan, pair_plan, dev_plan}
 
 -- Pairs
 
--- a side; version 3 stands for a peer that is refused
+-- a side; version 3 represents a peer that is refused
 pub record IsSide (side : SidePlan) : Type 0 where
   pub known_version : (3 ≤ side.version) × (side.version ≤ 5)
   pub queues : IsQueues side.queues

@@ -10,18 +10,18 @@ pub record Flow : Type 0 where
   pub start : ℕ
   pub stopped : Bool
 
--- whether it is stopped after a frame was accepted that left so many entries free
+-- whether it is stopped after a frame was accepted that left this many entries free
 abbrev pub stopped_after_send : Flow → ℕ → Bool
 stopped_after_send flow free = flow.stopped || nat_lt free flow.stop
 
--- whether a try to go on is refused where so many entries are free
+-- whether a try to go on is refused where this many entries are free
 abbrev pub stays_stopped : Flow → ℕ → Bool
 stays_stopped flow free = flow.stopped && nat_lt free flow.start
 
 abbrev pub no_counts : Counters
 no_counts = record { tx = 0; tx_bytes = 0; refused = 0; rx = 0; rx_bytes = 0; short = 0 }
 
--- a frame of so many bytes was accepted
+-- a frame of this many bytes was accepted
 abbrev pub count_accepted : Counters → ℕ → Counters
 count_accepted c len = record { tx = c.tx + 1; tx_bytes = c.tx_bytes + len; refused = c.refused; rx = c.rx; rx_bytes = c.rx_bytes; short = c.short }
 
@@ -29,7 +29,7 @@ count_accepted c len = record { tx = c.tx + 1; tx_bytes = c.tx_bytes + len; refu
 abbrev pub count_refused : Counters → Counters
 count_refused c = record { tx = c.tx; tx_bytes = c.tx_bytes; refused = c.refused + 1; rx = c.rx; rx_bytes = c.rx_bytes; short = c.short }
 
--- a frame of so many bytes was delivered
+-- a frame of this many bytes was delivered
 abbrev pub count_delivered : Counters → ℕ → Counters
 count_delivered c len =
     if nat_lt len ethernet_header

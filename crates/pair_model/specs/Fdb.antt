@@ -49,7 +49,7 @@ once_learned true known port = Some port
 once_learned false (Some place) port = Some port
 once_learned false None port = None
 
--- each station was seen on one of so many ports
+-- each station was seen on one of this many ports
 abbrev pub AreBelow : ℕ → List Station → Type 0
 AreBelow ports [] = Unit {0}
 AreBelow ports (station ∷ rest) = (station.port < ports) × AreBelow ports rest

@@ -65,7 +65,7 @@ pub data Found : Type 0 where
   -- an entry with its length, and the number of entries of its frame that follow
   AnEntry : (len : ℕ) (left : ℕ) → Found
 
--- what a header says to a receiver that has taken so many entries and copied so many bytes of the frame under way
+-- what a header says to a receiver that has taken this many entries and copied this many bytes of the frame under way
 abbrev pub found_with : Sizes → ℕ → ℕ → Header → Found
 found_with sizes got gathered header =
     if not (has_bit header.flags 0) then NoEntry
@@ -78,7 +78,7 @@ found_with sizes got gathered header =
 abbrev pub found_in_memory : PairPlan → Bytes → Side → ℕ → ℕ → ℕ → Found
 found_in_memory plan bytes side queue got gathered = found_with (sizes_in plan (layout_to plan side queue)) got gathered (header_in plan bytes side queue got)
 
--- a part of entry `got`, which has so many bytes, as it stands in memory
+-- a part of entry `got`, which has this many bytes, as it is in memory
 abbrev pub part_in_memory : PairPlan → Bytes → Side → ℕ → ℕ → ℕ → ℕ → List ℕ
 part_in_memory plan bytes side queue got len part =
     bytes side (own_slot plan side queue got + chunk_size * part) (min chunk_size (len - chunk_size * part))

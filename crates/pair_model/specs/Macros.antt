@@ -9,8 +9,8 @@ use Rattle.lane_model.specs.Lane.{chunks_in, count_from}
 use Rattle.pair_model.specs.Ethernet.{ethernet_header}
 use Rattle.pair_model.specs.Sizes.{agreed_version, sizes_of, pieces_in}
 
--- As many posts as a frame of so many bytes has writes: for each of its entries the chunks, length, version, flags and
--- doorbell. On version 4 a frame is one entry, also where it is too long.
+-- As many posts as a frame of this many bytes has writes: for each of its entries the chunks, length, version, flags
+-- and doorbell. On version 4 a frame is one entry, also where it is too long.
 abbrev pub posts_in : PairPlan → Side → ℕ → ℕ → ℕ
 posts_in plan side queue len =
     let largest = (sizes_of plan side queue).largest in
@@ -27,14 +27,14 @@ abbrev pub xmit : PairPlan → ℕ → Side → ℕ → ℕ → List ℕ → ℕ
 xmit plan pair side queue dev dst kind payload =
     Xbegin pair side queue dev dst kind payload ∷ replicate (posts_in plan side queue (length payload + ethernet_header)) (Post pair side queue)
 
--- the first write in flight lands, so many times
+-- the first write in flight lands, this many times
 abbrev pub land_all : ℕ → Side → ℕ → List Step
 land_all pair side count = replicate count (Land pair side 0)
 
--- an entry is looked for, copied in so many parts, cleared and given back
+-- an entry is looked for, copied in this many parts, cleared and given back
 abbrev pub receive : ℕ → Side → ℕ → ℕ → List Step
 receive pair side queue copies = Look pair side queue ∷ (replicate copies (Copy pair side queue) ++ Clear pair side queue ∷ Ack pair side queue ∷ [])
 
--- the whole offer of a side with so many windows
+-- the whole offer of a side with this many windows
 abbrev pub offer_all : ℕ → Side → ℕ → List Step
 offer_all pair side windows = replicate (2 * windows + 3) (Offer pair side)

@@ -15,7 +15,7 @@ agreed_version plan = if plan.a.version == 5 && plan.b.version == 5 then 5 else 
 abbrev pub header_bytes : PairPlan → ℕ
 header_bytes plan = if agreed_version plan == 5 then 16 else 12
 
--- where a side's rings lie in a window of so many bytes, by the side's own numbers
+-- where a side's rings lie in a window of this many bytes, by the side's own numbers
 abbrev pub layout_in : PairPlan → Side → ℕ → ℕ → Layout
 layout_in plan side size queue =
     let own = side_plan plan side in
@@ -48,6 +48,6 @@ sizes_in plan layout =
 abbrev pub sizes_of : PairPlan → Side → ℕ → Sizes
 sizes_of plan from queue = sizes_in plan (layout_of plan from queue)
 
--- how many entries of so many bytes a frame of so many bytes takes: one at least
+-- how many entries of this many bytes a frame of this many bytes takes: one at least
 abbrev pub pieces_in : ℕ → ℕ → ℕ
 pieces_in largest len = max 1 ((len + largest - 1) / largest)

@@ -19,6 +19,6 @@ abbrev pub byte_in : List Store → ℕ → ℕ
 byte_in [] address = 0
 byte_in (store ∷ older) address = if covers store address then slice_index store.bytes (address - store.at) else byte_in older address
 
--- so many bytes from an address on
+-- this many bytes from an address on
 abbrev pub bytes_in : List Store → ℕ → ℕ → List ℕ
 bytes_in stores at len = map (byte_in stores) (count_from at len)

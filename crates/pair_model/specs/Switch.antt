@@ -13,7 +13,7 @@ pub record Switch (F : Type 0) : Type 0 where
   pub waiting : List (List F)
   pub fdb : List Station
 
--- a switch with so many ports: no frame, and no station known
+-- a switch with this many ports: no frame, and no station known
 abbrev pub new_switch : {F : Type 0} → ℕ → Switch F
 new_switch ports = record { inboxes = replicate ports []; waiting = replicate ports []; fdb = [] }
 
@@ -47,7 +47,7 @@ first switch port = slice_get (list_of switch.waiting port) 0
 abbrev pub sent : {F : Type 0} → Switch F → ℕ → Switch F
 sent switch port = record switch { waiting = without_first switch.waiting port }
 
--- where a frame from a port goes in a switch with so many ports, by the port of its destination, if that is known
+-- where a frame from a port goes in a switch with this many ports, by the port of its destination, if that is known
 abbrev pub unicast_answer : ℕ → ℕ → Option ℕ → RelayAnswer
 unicast_answer ports port None = Flood (ports - 1)
 unicast_answer ports port (Some target) = if target == port then Filtered else To target

@@ -25,12 +25,12 @@ pub fn stations_are_few()
     ensures { StationsAreFew }
 {}
 
-/// Where each station is on a port of the switch, this holds after learning one on a port of the switch.
+/// If each station is on a port of the switch, this holds after learning one on a port of the switch.
 pub fn ports_are_below()
     ensures { PortsAreBelow }
 {}
 
-/// Where each station is on a port of the switch, a lookup gives a port of the switch, if any.
+/// If each station is on a port of the switch, a lookup gives a port of the switch, if any.
 pub fn found_is_below()
     ensures { FoundIsBelow }
 {}

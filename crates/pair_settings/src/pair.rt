@@ -84,11 +84,11 @@ fn side_with(settings: &[Setting], side: Side) -> SidePlan
     }
 }
 
-/// The pair that the options declare. Of options that are the same the first counts. Where a side has no number of its
+/// The pair that the options declare. Of options that are the same the first counts. If a side has no number of its
 /// own, that of both sides counts.
 ///
-/// Where nothing is said, a side has version 4, one queue and one window of 65,536 bytes, its cap is the peer's size,
-/// and the mtu is 65,536. The pair starts up, and is strict or raw, where an option says so. Each class is 0.
+/// If nothing is said, a side has version 4, one queue and one window of 65,536 bytes, its cap is the peer's size, and
+/// the mtu is 65,536. The pair starts up, and is strict or raw, where an option says so. Each class is 0.
 pub fn pair_with(name: Name, settings: &[Setting]) -> PairPlan
     ensures { result ≡ rules.pair_with name settings.now }
 {

@@ -50,7 +50,7 @@ pub fn index_word_at(plan: &PairPlan, side: Side, queue: u32) -> u64
     own_address(plan, side, ring.window_of(), ring.index_at())
 }
 
-// A ring of one of a side's queues, in windows of so many bytes, which are the side's or the peer's.
+// A ring of one of a side's queues, in windows of this many bytes, which are the side's or the peer's.
 fn ring_in(plan: &PairPlan, side: Side, size: u64, queue: u32) -> Geometry
     requires placed { IsPlaced (layout_in plan.now side size queue) }
     ensures { result ≡ layout_in plan.now side size queue }

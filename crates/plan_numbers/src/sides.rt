@@ -120,14 +120,14 @@ pub fn own_address(plan: &PairPlan, side: Side, window: u32, offset: u64) -> u64
     u64::from(window) * side_plan(plan, side).cap + offset
 }
 
-/// The high half of a window's size, as it stands in a scratchpad of 32 bits.
+/// The high half of a window's size, as it is in a scratchpad of 32 bits.
 pub fn high_half(size: u64) -> u32
     ensures { result ≡ size / word }
 {
     (size / WORD) as u32
 }
 
-/// The low half of a window's size, as it stands in a scratchpad of 32 bits.
+/// The low half of a window's size, as it is in a scratchpad of 32 bits.
 pub fn low_half(size: u64) -> u32
     ensures { result ≡ size % word }
 {

@@ -9,7 +9,7 @@ use Rattle.order_rules.specs.Order.{Order}
 use Rattle.posted_queue.specs.Counts.{is_of_class, IsCounted}
 use Rattle.posted_queue.specs.Rows.{is_held_back}
 
--- some element passes exactly where their count isn't 0
+-- some element passes if and only if their count isn't 0
 pub list_any-count_by : {X : Type 0} (p : X → Bool) (xs : List X) → nat_lt 0 (count_by p xs) ≡ list_any p xs
 list_any-count_by p [] = refl
 list_any-count_by p (x ∷ xs) = ap (nat_lt 0) (sum_by-cons (λ y. cond (p y) 1 0) x xs) ∙ more (p x) (count_by p xs) (list_any p xs) (list_any-count_by p xs)

@@ -27,7 +27,7 @@ may_land-past order writes place past =
 eqb-swap : (a b : ℕ) → (a == b) ≡ (b == a)
 eqb-swap a b = ⊎_elim (λ (e : a ≡ b). eq-eqb a b e ∙ sym (eq-eqb b a (sym e))) (λ (ne : a ≢ b). ne_eqb a b ne ∙ sym (ne_eqb b a (λ e. ne (sym e)))) (cases_eq a b)
 
--- it passes each exactly where nothing that it waits for stands before it
+-- it passes each if and only if nothing that it waits for stands before it
 pub passes_all : {W : Type 0} (order : W → Order) (write : W) (before : List W) → list_all (λ earlier. passes (order write) (order earlier)) before ≡ not (is_held_back order (class_awaited (order write)) before)
 passes_all {W = W} order write before = by_kind ((order write).kind == relaxed) before
   where
@@ -44,7 +44,7 @@ passes_all {W = W} order write before = by_kind ((order write).kind == relaxed) 
         ∙ ap (λ rest. not ((order x).class == (order write).class) && rest) (by_kind false xs)
         ∙ both ((order x).class == (order write).class) (is_held_back order (Some (order write).class) xs)
 
--- The write at a place may land exactly where no write before it has the class that it waits for.
+-- The write at a place may land if and only if no write before it has the class that it waits for.
 pub may_land-awaited : {W : Type 0} (order : W → Order) (writes : List W) (place : ℕ) (write : W) → slice_get writes place ≡ Some write → may_land (map order writes) place ≡ not (is_held_back order (class_awaited (order write)) (take place writes))
 may_land-awaited order writes place write at = may_land-map order writes place write at ∙ passes_all order write (take place writes)
 

@@ -52,7 +52,7 @@ passes_when_relaxed write (x ∷ xs) is_relaxed =
 passes_when_strict : (write : Order) (before : List Order) → (write.kind == relaxed) ≡ false → list_all (passes write) before ≡ list_all (λ earlier. not (write.class == earlier.class)) before
 passes_when_strict write before is_strict = ap (λ b. list_all (λ earlier. b || not (write.class == earlier.class)) before) is_strict
 
--- a write may land exactly where it is relaxed or none before it has its class
+-- a write may land if and only if it is relaxed or none before it has its class
 pub may_land-relaxed_or_first_of_class : (before after : List Order) (write : Order) → IsTrue (may_land (before ++ write ∷ after) (length before)) ↔ IsRelaxedOrFirstOfClass before write
 may_land-relaxed_or_first_of_class before after write = (forth, back)
   where

@@ -27,7 +27,7 @@ pub is_held_back-append : {W : Type 0} (order : W → Order) (waits_for : Option
 is_held_back-append order None xs ys = refl
 is_held_back-append order (Some class) xs ys = list_any-append (λ write. (order write).class == class) xs ys
 
--- the front of a list after so many elements
+-- the front of a list after this many elements
 pub take-append_far : {X : Type 0} (xs ys : List X) (n : ℕ) → length xs ≤ n → take n (xs ++ ys) ≡ xs ++ take (n - length xs) ys
 take-append_far [] ys n far = ap (λ k. take k ys) (omega arith)
 take-append_far (x ∷ xs) ys zero far = absurd (omega arith)
@@ -188,7 +188,7 @@ left_in-at most [] number places within = absurd (omega arith)
 left_in-at most (x ∷ xs) zero places within = refl
 left_in-at most (x ∷ xs) (suc number) places within = left_in-at most xs number places (omega arith)
 
--- Where a row is kept, its places from a part on could take before what that part and the later places can now.
+-- If a row is kept, its places from a part on could take before what that part and the later places can now.
 pub kept-left : {W : Type 0} (most : ℕ) (old new : List (PartState W)) (number places : ℕ) → KeepsWrites most old new → number < length new → number < places → left_in most (places - number) (drop number old) ≡ (part_at new number).left + left_in most (places - (number + 1)) (drop (number + 1) new)
 kept-left most old new number places kept within some =
     let one_more : places - number ≡ suc (places - (number + 1)) = omega arith in

@@ -1,4 +1,4 @@
--- A landing of the write that a ticket stands for.
+-- A landing of the write that a ticket represents.
 use Rattle.std.proofs.Common.{◌≡◌, ℕ, Bool, true, false, List, map, take, Option, Some, None, option_map, slice_get, if◌then◌else◌, refl, sym, ap, subst, ◌∙◌}
 use Rattle.std.specs.List.{remove}
 use Rattle.std.proofs.lemmas.Option.{slice_get-map}
@@ -38,14 +38,14 @@ after-lands order flight place may = ap (λ lands. if lands then record { writes
 after-stays : {W : Type 0} (order : W → Order) (flight : Flight W) (place : ℕ) → may_land (map order flight.writes) place ≡ false → after_landing order flight place ≡ flight
 after-stays order flight place may = ap (λ lands. if lands then record { writes = remove flight.writes place; spare = flight.spare } else flight) may
 
--- a ticket landed that stands for this write: the write landed, and the other tickets are kept
+-- a ticket landed that represents this write: the write landed, and the other tickets are kept
 pub record LandsKept {W : Type 0} (order : W → Order) (old new : Slab W) (tickets left : Flight Ticket) (place : ℕ) (write : W) : Type 0 where
   pub answer : Landed write ≡ land_answer order (flight_of old.slots tickets) place
   pub after : flight_of new.slots left ≡ after_landing order (flight_of old.slots tickets) place
   pub kept : AreKept order new.slots left.writes
   pub spare : left.spare ≡ tickets.spare
 
--- Where a ticket lands and its key is emptied, the write that was kept there lands, and other tickets keep theirs.
+-- If a ticket lands and its key is emptied, the write that was kept there lands, and other tickets keep theirs.
 pub lands_kept : {W : Type 0} (order : W → Order) (old new : Slab W) (tickets left : Flight Ticket) (place : ℕ) (ticket : Ticket) (write : W) → AreKept order old.slots tickets.writes → Landed ticket ≡ land_answer ticket_order tickets place → left ≡ after_landing ticket_order tickets place → kept_at old.slots ticket.key ≡ Some write → Updates old new ticket.key None → LandsKept order old new tickets left place write
 lands_kept order old new tickets left place ticket write kept answered after there updates = record {
   answer = sym (ap (λ at. answer_for at (may_land (map order (writes_of old.slots tickets.writes)) place)) (slice_get-kept order old.slots tickets.writes place ticket kept found ∙ there) ∙ ap (answer_for (Some write)) may_too);
@@ -72,7 +72,7 @@ lands_kept order old new tickets left place ticket write kept answered after the
     others : NoneAt ticket.key (remove tickets.writes place)
     others = none_at-taken order old.slots tickets.writes place ticket kept found
 
--- the write that its ticket stands for is there
+-- the write that its ticket represents is there
 pub landed-kept : {W : Type 0} (order : W → Order) (slots : List (Option W)) (tickets : Flight Ticket) (place : ℕ) (ticket : Ticket) → AreKept order slots tickets.writes → Landed ticket ≡ land_answer ticket_order tickets place → IsKept order slots ticket
 landed-kept order slots tickets place ticket kept answered =
     kept-found order slots tickets.writes place ticket kept (found-landed (slice_get tickets.writes place) (may_land (map ticket_order tickets.writes) place) ticket answered).0

@@ -1,4 +1,4 @@
--- The writes that tickets stand for, where one is put, taken out or landed.
+-- The writes that tickets represent, where one is put, taken out or landed.
 use Rattle.std.proofs.Common.{◌≡◌, ◌≢◌, ℕ, zero, suc, ◌-◌, List, [], ◌∷◌, ◌++◌, length, map, Option, Some, None, slice_get, remove, refl, sym, ap, subst, ◌∙◌}
 use Rattle.std.specs.List.{cons_option}
 use Rattle.std.proofs.lemmas.List.Elements.{filter_map-append}
@@ -17,7 +17,7 @@ none_at-vacant order slots (ticket ∷ rest) key kept vacant = (
   none_at-vacant order slots rest key kept.2 vacant,
 )
 
--- tickets with other keys are kept where a key changes, and stand for the same writes
+-- tickets with other keys are kept where a key changes, and represent the same writes
 pub are_kept-update : {W : Type 0} (order : W → Order) (old new : Slab W) (tickets : List Ticket) (key : ℕ) (slot : Option W) → NoneAt key tickets → Updates old new key slot → AreKept order old.slots tickets → AreKept order new.slots tickets
 are_kept-update order old new [] key slot none updates kept = tt
 are_kept-update order old new (ticket ∷ rest) key slot none updates kept = (
@@ -26,7 +26,7 @@ are_kept-update order old new (ticket ∷ rest) key slot none updates kept = (
   are_kept-update order old new rest key slot none.1 updates kept.2,
 )
 
--- Tickets of which none has a key stand for the same writes when what is kept at that key changes.
+-- Tickets of which none has a key represent the same writes when what is kept at that key changes.
 pub writes_of-update : {W : Type 0} (old new : Slab W) (tickets : List Ticket) (key : ℕ) (slot : Option W) → NoneAt key tickets → Updates old new key slot → writes_of new.slots tickets ≡ writes_of old.slots tickets
 writes_of-update old new [] key slot none updates = refl
 writes_of-update old new (ticket ∷ rest) key slot none updates =
@@ -82,7 +82,7 @@ none_at-remove key [] (suc place) none = tt
 none_at-remove key (first ∷ rest) zero none = none.1
 none_at-remove key (first ∷ rest) (suc place) none = (none.0, none_at-remove key rest place none.1)
 
--- Tickets that each stand for a write of their own still do when one of them is taken out.
+-- Tickets that each represent a write of their own still do when one of them is taken out.
 pub are_kept-remove : {W : Type 0} (order : W → Order) (slots : List (Option W)) (tickets : List Ticket) (place : ℕ) → AreKept order slots tickets → AreKept order slots (remove tickets place)
 are_kept-remove order slots [] zero kept = tt
 are_kept-remove order slots [] (suc place) kept = tt
@@ -123,7 +123,7 @@ orders-kept order slots (first ∷ rest) kept =
     ∙ ap (λ o. o ∷ map order (writes_of slots rest)) kept.0.order_is
     ∙ ap (λ orders. ticket_order first ∷ orders) (orders-kept order slots rest kept.2)
 
--- Tickets that each stand for a write of their own stand for as many writes as there are tickets.
+-- Tickets that each represent a write of their own represent as many writes as there are tickets.
 pub length-kept : {W : Type 0} (order : W → Order) (slots : List (Option W)) (tickets : List Ticket) → AreKept order slots tickets → length (writes_of slots tickets) ≡ length tickets
 length-kept order slots [] kept = refl
 length-kept order slots (first ∷ rest) kept =

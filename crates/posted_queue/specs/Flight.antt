@@ -10,11 +10,11 @@ pub record Flight (W : Type 0) : Type 0 where
 abbrev pub nothing_in_flight : {W : Type 0} → Flight W
 nothing_in_flight = record { writes = []; spare = 0 }
 
--- room is promised for so many more writes
+-- room is promised for this many more writes
 abbrev pub promised : {W : Type 0} → Flight W → ℕ → Flight W
 promised flight more = record { writes = flight.writes; spare = flight.spare + more }
 
--- the promise of so many writes is given back
+-- the promise of this many writes is given back
 abbrev pub given_back : {W : Type 0} → Flight W → ℕ → Flight W
 given_back flight count = record { writes = flight.writes; spare = flight.spare - count }
 

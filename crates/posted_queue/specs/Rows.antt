@@ -9,7 +9,7 @@ pub record PartState (W : Type 0) : Type 0 where
   pub writes : List W
   -- how many more can be pushed with no further memory
   pub spare : ℕ
-  -- how many more it can take in all as it stands, with further memory where need be
+  -- how many more it can take in all as it is, with further memory where need be
   pub left : ℕ
 
 -- a part where none stands
@@ -30,7 +30,7 @@ abbrev pub room_in : {W : Type 0} → List (PartState W) → ℕ
 room_in [] = 0
 room_in (part ∷ rest) = part.spare + room_in rest
 
--- how many more writes so many places of a row can take in all: a place where no part stands yet takes what an empty
+-- how many more writes this many places of a row can take in all: a place where no part stands yet takes what an empty
 -- part does, which is `most`
 abbrev pub left_in : {W : Type 0} → ℕ → ℕ → List (PartState W) → ℕ
 left_in most zero row = 0

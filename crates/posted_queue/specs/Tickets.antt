@@ -4,7 +4,7 @@ use Rattle.order_rules.specs.Order.{Order}
 use Rattle.posted_queue.specs.Flight.{Flight}
 use Rattle.posted_queue.specs.declared.ticket.Ticket.{Ticket}
 
--- the order of the write that a ticket stands for
+-- the order of the write that a ticket represents
 abbrev pub ticket_order : Ticket → Order
 ticket_order ticket = record { kind = ticket.kind; class = ticket.class }
 
@@ -12,11 +12,11 @@ ticket_order ticket = record { kind = ticket.kind; class = ticket.class }
 abbrev pub kept_at : {W : Type 0} → List (Option W) → ℕ → Option W
 kept_at slots key = slice_index_or slots key None
 
--- the writes that these tickets stand for
+-- the writes that these tickets represent
 abbrev pub writes_of : {W : Type 0} → List (Option W) → List Ticket → List W
 writes_of slots tickets = filter_map (λ ticket. kept_at slots ticket.key) tickets
 
--- the flight of the writes that the tickets in flight stand for
+-- the flight of the writes that the tickets in flight represent
 abbrev pub flight_of : {W : Type 0} → List (Option W) → Flight Ticket → Flight W
 flight_of slots tickets = record { writes = writes_of slots tickets.writes; spare = tickets.spare }
 
@@ -31,7 +31,7 @@ abbrev pub NoneAt : ℕ → List Ticket → Type 0
 NoneAt key [] = Unit {0}
 NoneAt key (ticket ∷ rest) = (ticket.key ≢ key) × NoneAt key rest
 
--- each ticket stands for a write of its own
+-- each ticket represents a write of its own
 abbrev pub AreKept : {W : Type 0} → (W → Order) → List (Option W) → List Ticket → Type 0
 AreKept order slots [] = Unit {0}
 AreKept order slots (ticket ∷ rest) = IsKept order slots ticket × NoneAt ticket.key rest × AreKept order slots rest

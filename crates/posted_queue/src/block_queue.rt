@@ -70,9 +70,9 @@ impl<W: Ordered> BlockQueue<W> {
 
     /// Promises room for `more` writes, on top of those that are promised already.
     ///
-    /// An `Err` comes only when out of memory, never to a promise of 0 writes, and leaves the queue as it was. It comes
-    /// also where the blocks can't take so many: they take 67,109,120 writes at most, and fewer where landings out of
-    /// order left most of each block empty. Where they can, and the machine gives the memory, it never comes.
+    /// Returns an error if memory runs out, never to a promise of 0 writes, and leaves the queue as it was. It comes
+    /// also where the blocks can't take that many: they take 67,109,120 writes at most, and fewer where landings out of
+    /// order left most of each block empty. If they can, and the machine gives the memory, it never comes.
     #[inline]
     pub fn promise(&mut self, more: usize) -> Result<(), AllocError>
         ensures ok { OnOk result (self.new ≡ promised self.old more) }
@@ -88,7 +88,7 @@ impl<W: Ordered> BlockQueue<W> {
         Ok(())
     }
 
-    /// Gives back the promise of `count` writes, which are not posted after all. So many must be promised.
+    /// Gives back the promise of `count` writes, which are not posted after all. This many must be promised.
     #[inline]
     pub fn give_back(&mut self, count: usize)
         requires { count ≤ self.old.spare }
@@ -167,7 +167,7 @@ impl<W: Ordered> Model for BlockQueue<W> {
     ghost invariant = { λ queue. (queue.spare ≤ queue.blocks.spare) × (length queue.blocks.writes + queue.spare < 2 ^ 64) };
 }
 
-// Makes room for so many writes, or answers the error that it answers when out of memory.
+// Makes room for this many writes, or answers the error that it answers when out of memory.
 #[inline(never)]
 fn make_room<W: Ordered>(blocks: &mut Blocks<W>, count: usize) -> Result<(), AllocError>
     ensures writes { blocks.new.writes ≡ blocks.old.writes }

@@ -42,7 +42,7 @@ impl<W: Ordered> Blocks<W> {
         self.front.len() + self.rest.len()
     }
 
-    /// Whether so many writes can be pushed with no further memory.
+    /// Whether this many writes can be pushed with no further memory.
     #[inline]
     pub fn has_room(&self, count: usize) -> bool
         ensures { IsTrue result ↔ (count ≤ self.now.spare) }
@@ -131,8 +131,8 @@ impl<W: Ordered> Blocks<W> {
         self.rest.take(place - front, waits_for)
     }
 
-    /// Makes room for `more` writes, or for as many as the blocks can take where they are fewer. The only error is out
-    /// of memory.
+    /// Makes room for `more` writes, or for as many as the blocks can take where they are fewer. Returns an error if
+    /// memory runs out.
     pub fn reserve(&mut self, more: usize) -> Result<(), AllocError>
         ensures writes { self.new.writes ≡ self.old.writes }
         ensures room { self.old.spare ≤ self.new.spare }

@@ -5,7 +5,7 @@ ghost use Rattle.posted_queue.specs.Laws.{IsRelaxedOrFirstOfClass, LandsAmongKep
 
 use crate::Ordered;
 
-/// A write may land exactly where it is relaxed or no write before it has its traffic class.
+/// A write may land if and only if it is relaxed or no write before it has its traffic class.
 pub fn relaxed_or_first_of_class_lands()
     ensures { (before after : List Order) (write : Order)
         → IsTrue (may_land (before ++ write ∷ after) (length before)) ↔ IsRelaxedOrFirstOfClass before write }
@@ -18,7 +18,7 @@ pub fn one_class_lands_by_kind()
         → may_land orders place ≡ lands_by_kind (map (λ order. order.kind) orders) place }
 {}
 
-/// A write that may land among all those in flight may land among some of them, as among those of its own lane. Where
+/// A write that may land among all those in flight may land among some of them, as among those of its own lane. If
 /// others are left out, it still may land at the place that it then has. What stays in flight is the same, whether they
 /// are left out before it lands or after.
 pub fn lands_among_kept<W: Ordered>()

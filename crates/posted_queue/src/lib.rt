@@ -118,9 +118,10 @@ impl<W: Ordered> Queue<W> {
 
     /// Promises room for `more` writes, on top of those that are promised already.
     ///
-    /// An `Err` comes only when out of memory, never to a promise of 0 writes, and leaves the queue as it was. It comes
-    /// also where the queue's blocks can't take so many: they take 67,109,120 writes at most, and fewer where landings
-    /// out of order left most of each block empty. Where they can, and the machine gives the memory, it never comes.
+    /// Returns an error if memory runs out, never to a promise of 0 writes, and leaves the queue as it was. It comes
+    /// also where the queue's blocks can't take that many: they take 67,109,120 writes at most, and fewer where
+    /// landings out of order left most of each block empty. If they can, and the machine gives the memory, it never
+    /// comes.
     #[inline]
     pub fn promise(&mut self, more: usize) -> Result<(), AllocError>
         ensures ok { OnOk result (self.new ≡ promised self.old more) }
@@ -132,7 +133,7 @@ impl<W: Ordered> Queue<W> {
         self.tickets.promise(more)
     }
 
-    /// Gives back the promise of `count` writes, which are not posted after all. So many must be promised.
+    /// Gives back the promise of `count` writes, which are not posted after all. This many must be promised.
     #[inline]
     pub fn give_back(&mut self, count: usize)
         requires { count ≤ self.old.spare }
@@ -184,7 +185,7 @@ impl<W: Ordered> Queue<W> {
         self.writes.clear();
     }
 
-    // The write that the ticket at this place stands for.
+    // The write that the ticket at this place represents.
     fn write_at(&self, place: usize) -> Option<&W>
         ensures { option_copied result ≡ slice_get self.now.writes place }
     {

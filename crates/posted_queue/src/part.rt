@@ -57,8 +57,8 @@ pub trait Part<W: Ordered>: Sized {
         ensures writes { OnSome result ((state self.new).writes ≡ remove (state self.old).writes place) }
         ensures room { (state self.old).spare ≤ (state self.new).spare };
 
-    /// Makes room for `more` writes, or for as many as the part can take where they are fewer. The only error is out
-    /// of memory.
+    /// Makes room for `more` writes, or for as many as the part can take where they are fewer. Returns an error if
+    /// memory runs out.
     fn reserve(&mut self, more: usize) -> Result<(), AllocError>
         ensures writes { (state self.new).writes ≡ (state self.old).writes }
         ensures room { (state self.old).spare ≤ (state self.new).spare }

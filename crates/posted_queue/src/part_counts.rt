@@ -124,8 +124,8 @@ impl<W: Ordered, P: Part<W>> Counted<W, P> {
         Some(write)
     }
 
-    /// Makes room for `more` writes, or for as many as the part can take where they are fewer. The only error is out
-    /// of memory.
+    /// Makes room for `more` writes, or for as many as the part can take where they are fewer. Returns an error if
+    /// memory runs out.
     pub fn reserve(&mut self, more: usize) -> Result<(), AllocError>
         ensures writes { self.new.writes ≡ self.old.writes }
         ensures room { self.old.spare ≤ self.new.spare }

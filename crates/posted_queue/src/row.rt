@@ -152,7 +152,7 @@ pub fn take_from<W: Ordered, P: Part<W>>(
 }
 
 /// Makes room for `more` writes in the parts from this one on, or for as many as the row can take there where they are
-/// fewer. Parts are added where need be. The only error is running out of memory.
+/// fewer. Parts are added where need be. Returns an error if memory runs out.
 pub fn reserve_from<W: Ordered, P: Part<W>>(
     row: &mut Vec<Counted<W, P>>,
     from: usize,

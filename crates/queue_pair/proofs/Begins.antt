@@ -25,7 +25,7 @@ begun_by_port true false closed begun number e = absurd (cc e)
 begun_by_port true true true begun number e = absurd (cc e)
 begun_by_port true true false begun number e = begun_number begun number e
 
--- Where a queue begins a frame, its port does.
+-- If a queue begins a frame, its port does.
 pub port_begins : (queue : QueueState) (bridge : Bridge) (len : ℕ) → BeginsFrame queue bridge len → PortBegins queue.port bridge len
 port_begins queue bridge len begins =
     (begins.0, begun_by_port (is_up bridge.link.state) (is_joined queue bridge) queue.closed (port_begin_answer queue.port bridge len) begins.0 begins.1)
@@ -44,6 +44,6 @@ found_by_port false closed look number len e = absurd (cc e)
 found_by_port true true look number len e = absurd (cc e)
 found_by_port true false look number len e = ready_number look number len e
 
--- Where a queue finds an entry, its port does.
+-- If a queue finds an entry, its port does.
 pub port_finds : (queue : QueueState) (bridge : Bridge) (number len : ℕ) → look_answer queue bridge ≡ Ready number len → port_look_answer queue.port bridge ≡ RingReady number len
 port_finds queue bridge number len found = found_by_port (is_joined queue bridge) queue.closed (port_look_answer queue.port bridge) number len found

@@ -21,7 +21,7 @@ by_tests len most head tail told true true false false true few = refl
 by_tests len most head tail told true true false false false true = refl
 by_tests len most head tail told true true false false false false = refl
 
--- A queue refuses frames of a length exactly where a begin of one would be refused for a reason other than no room.
+-- A queue refuses frames of a length if and only if a begin of one would be refused for a reason other than no room.
 pub refuses_where_begin_would : RefusesWhereBeginWould
 refuses_where_begin_would queue bridge len =
     by_tests len (sizes_seen queue.port).most (head_seen queue.port) (index_word_seen queue.port bridge) queue.port.sending.told

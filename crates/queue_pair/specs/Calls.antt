@@ -1,7 +1,7 @@
--- What each call of a queue pair comes to: its contract, over the queue and the pair before and after it. The tests of
--- link, joined and closed queue come first (Gates), and what passes them is the port's call. `early` and `late` are the
--- pair as the call begins and ends. A post, a copy, a clear and an acknowledgement are the port's, and have its
--- relations as they stand in `frame_ring`'s PortCalls.
+-- The contract of each call of a queue pair, over the queue and the pair before and after it. The tests of link, joined
+-- and closed queue come first (Gates), and what passes them is the port's call. `early` and `late` are the pair as the
+-- call begins and ends. A post, a copy, a clear and an acknowledgement are the port's, and have its relations as they
+-- stand in `frame_ring`'s PortCalls.
 use Rattle.std.specs.Prelude.{◌≡◌, ℕ, List, length, IfOk, OnErr, OnOk, Result}
 use Rattle.bridge_pair.specs.Bridge.{Bridge}
 use Rattle.frame_ring.specs.Calls.{TouchedByBegin, TouchedByDown, TouchedByFlags, TouchedByLook}
@@ -19,7 +19,7 @@ pub record HasBegunOnQueue {E : Type 0} (old new : QueueState) (early late : Bri
   pub after : OnOk result (new ≡ after_begin old early frame)
   -- out of memory leaves the queue as it was
   pub err : OnErr result (new ≡ old)
-  -- and comes only where the frame was to be begun
+  -- and comes only if the frame was to be begun
   pub wants : OnErr result (begin_answer old early (length frame) ≡ IsBegun old.port.sending.told)
   -- the port has promised what the writes need
   pub promises : HasPromised (TouchedByBegin old.port early frame) old.port new.port early late result
@@ -44,7 +44,7 @@ pub record HasGoneDownOnQueue {E : Type 0} (old new : QueueState) (early late : 
   pub after : OnOk result (new ≡ after_qpdown old early)
   -- out of memory leaves the queue as it was
   pub err : OnErr result (new ≡ old)
-  -- and comes only where the entry was to be begun
+  -- and comes only if the entry was to be begun
   pub wants : OnErr result (qpdown_answer old early ≡ IsBegun old.port.sending.told)
   -- the port has promised what the writes need
   pub promises : HasPromised (TouchedByDown old.port early) old.port new.port early late result
@@ -57,7 +57,7 @@ pub record HasLookedOnQueue {E : Type 0} (old new : QueueState) (early late : Br
   pub after : OnOk result (new ≡ after_look old early)
   -- out of memory leaves the queue as it was
   pub err : OnErr result (new ≡ old)
-  -- and comes only where an entry is found
+  -- and comes only if an entry is found
   pub wants : OnErr result (FindsEntry old early)
   -- the port has promised what it needs to take the entry and to give it back
   pub promises : HasPromisedBoth (TouchedByLook old.port early) (TouchedByFlags old.port early) old.port new.port early late result

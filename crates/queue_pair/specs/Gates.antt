@@ -52,7 +52,7 @@ port_unless (Some refusal) queue port = queue
 abbrev pub begin_answer : QueueState → Bridge → ℕ → BeginAnswer
 begin_answer queue bridge len = answer_unless (sender_refusal queue bridge) (port_begin_answer queue.port bridge len)
 
--- a frame of so many bytes is begun, and not refused
+-- a frame of this many bytes is begun, and not refused
 abbrev pub BeginsFrame : QueueState → Bridge → ℕ → Type 0
 BeginsFrame queue bridge len = (number : ℕ) × (begin_answer queue bridge len ≡ IsBegun number)
 

@@ -16,6 +16,6 @@ is_refusal Busy = true
 is_refusal (IsBegun number) = false
 is_refusal (NoRoom head tail) = false
 
--- a queue refuses frames of a length exactly where a begin would be refused so
+-- a queue refuses frames of a length if and only if a begin would be refused so
 abbrev pub RefusesWhereBeginWould : Type 0
 RefusesWhereBeginWould = (queue : QueueState) (bridge : Bridge) (len : ℕ) → refuses_answer queue bridge len ≡ is_refusal (begin_answer queue bridge len)

@@ -2,7 +2,7 @@
 
 ghost use Rattle.queue_pair.specs.Laws.{RefusesWhereBeginWould};
 
-/// Whatever queue, pair and length: [`crate::QueuePair::refuses`] is true exactly where [`crate::QueuePair::begin`]
+/// Whatever queue, pair and length: [`crate::QueuePair::refuses`] is true if and only if [`crate::QueuePair::begin`]
 /// answers `LinkDown`, `NotReady`, `Closed`, `TooLong` or `Busy`, and so false where it answers `Ok` or `NoRoom`.
 pub fn refuses_where_begin_would()
     ensures { RefusesWhereBeginWould }

@@ -17,7 +17,7 @@ use step_kinds::{Frame, Label, LaneCopy, PairPlan, Side};
 
 /// One queue pair of one side: its port, and whether the queue is closed on this side. Contracts see both. Every call
 /// that takes a pair has the conditions of the port's call: the pair is one of the queue's plan, and what the port was
-/// promised is there. The sides have to fit each other, as [`Port`] says, only where the queue is joined on this side.
+/// promised is there. The sides have to fit each other, as [`Port`] says, only if the queue is joined on this side.
 #[derive(Drop)]
 pub struct QueuePair {
     port: Port,
@@ -69,7 +69,7 @@ impl QueuePair {
     }
 
     /// Begins a frame to which [`QueuePair::begin_answer`] answers [`BeginAnswer::Ok`], as [`QueuePair::begin`] does,
-    /// and answers its number. Nothing is tested again.
+    /// and returns its number. Nothing is tested again.
     ///
     /// # Errors
     ///

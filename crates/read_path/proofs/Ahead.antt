@@ -18,7 +18,7 @@ ahead_append P before [] ys has more = subst (λ b. AllAhead P b ys) (append-nil
 ahead_append P before (x ∷ xs) ys has more =
     (has.0, ahead_append P (before ++ x ∷ []) xs ys has.1 (subst (λ b. AllAhead P b ys) (sym (step_over before xs x)) more))
 
--- Where one fact implies another, a list whose items have the first about those before them has the second too.
+-- If one fact implies another, a list whose items have the first about those before them has the second too.
 pub ahead_map : (P Q : List Sent → Sent → Type 0) → ((b : List Sent) (x : Sent) → P b x → Q b x) → (before xs : List Sent) → AllAhead P before xs → AllAhead Q before xs
 ahead_map P Q weaker before [] has = tt
 ahead_map P Q weaker before (x ∷ xs) has = (weaker before x has.0, ahead_map P Q weaker (before ++ x ∷ []) xs has.1)

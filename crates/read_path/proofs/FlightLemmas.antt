@@ -14,7 +14,7 @@ and_false : (a : Bool) → (a && false) ≡ false
 and_false true = refl
 and_false false = refl
 
--- where one of the first so many fails a test, not all of them pass it
+-- where one of the first this many fails a test, not all of them pass it
 pub one_fails : {X : Type 0} (p : X → Bool) (xs : List X) (place count : ℕ) (d : X) → place < count → place < length xs → p (get_or xs place d) ≡ false → list_all p (take count xs) ≡ false
 one_fails p [] place count d before within fails = absurd (omega (arith, within))
 one_fails p (x ∷ xs) place zero d before within fails = absurd (omega (arith, before))

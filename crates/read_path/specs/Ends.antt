@@ -13,7 +13,7 @@ end_seen end = record { memory = end.memory.bytes; flight = end.flight.flying; r
 abbrev pub path_seen : Inside → PathState
 path_seen path = record { link = path.link.state; session = path.link.session; sides = record { a = end_seen path.a; b = end_seen path.b } }
 
--- how many completions a read of so many bytes has
+-- how many completions a read of this many bytes has
 abbrev pub completions_of : ℕ → ℕ
 completions_of len = (len - 1) / completion_bytes + 1
 
@@ -69,7 +69,7 @@ posts end at bytes relaxed = with_flight_state end (record { flying = end.flight
 abbrev pub asks : End → ℕ → ℕ → End
 asks end at len = record { memory = end.memory; flight = record { flying = end.flight.flying ++ Request end.reads at len ∷ []; spare = end.flight.spare }; reads = end.reads + 1 }
 
--- room is promised for the completions of a read of so many bytes
+-- room is promised for the completions of a read of this many bytes
 abbrev pub promises : End → ℕ → End
 promises end len = with_flight_state end (record { flying = end.flight.flying; spare = end.flight.spare + completions_of len })
 

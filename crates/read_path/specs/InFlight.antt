@@ -9,7 +9,7 @@ use Rattle.order_rules.specs.Transactions.{read_request, completion, may_overtak
 pub data Flying : Type 0 where
   -- a posted write of these bytes to this address
   Write : (at : ℕ) (bytes : List ℕ) (relaxed : Bool) → Flying
-  -- the request of the side's read of this number: so many bytes from this address on
+  -- the request of the side's read of this number: this many bytes from this address on
   Request : (number : ℕ) (at : ℕ) (len : ℕ) → Flying
   -- a completion of the peer's read of this number that isn't the last one
   Part : (number : ℕ) (part : ℕ) → Flying
@@ -41,7 +41,7 @@ may_land flight place = lands_after (slice_get flight place) (take place flight)
 abbrev pub completion_bytes : ℕ
 completion_bytes = 128
 
--- so many completions before the last one, from a part on
+-- this many completions before the last one, from a part on
 abbrev pub parts_from : ℕ → ℕ → ℕ → List Flying
 parts_from number part zero = []
 parts_from number part (suc more) = Part number part ∷ parts_from number (part + 1) more

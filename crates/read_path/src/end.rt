@@ -24,7 +24,7 @@ pub struct End {
 }
 
 impl End {
-    /// A side whose bytes are all 0, with nothing in flight and no read made. The only error is running out of memory.
+    /// A side whose bytes are all 0, with nothing in flight and no read made. Returns an error if memory runs out.
     pub fn new(alloc: Global) -> Result<End, AllocError>
         ensures fresh { IfOk result (λ end. end_seen end ≡ fresh_end) }
         ensures whole { IfOk result (λ end. IsEnd end) }
@@ -38,8 +38,8 @@ impl End {
         })
     }
 
-    /// Posts a write of 1 to 128 bytes to the address `at` of the peer. The only error is running out of memory, and
-    /// then nothing changes.
+    /// Posts a write of 1 to 128 bytes to the address `at` of the peer. Returns an error if memory runs out, and then
+    /// nothing changes.
     pub fn post(&mut self, at: u32, bytes: &[u8], relaxed: bool) -> Result<(), AllocError>
         requires some { 1 ≤ length bytes.now }
         requires fits { length bytes.now ≤ most_write_bytes }

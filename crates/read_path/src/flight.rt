@@ -80,8 +80,8 @@ impl Flight {
         self.items.len()
     }
 
-    /// Promises room for so many more, on top of those that are promised already. The only error is running out of
-    /// memory, and then nothing changes.
+    /// Promises room for this many more, on top of those that are promised already. Returns an error if memory runs
+    /// out, and then nothing changes.
     pub fn promise(&mut self, more: usize) -> Result<(), AllocError>
         ensures ok { OnOk result (self.new ≡ record self.old { spare = self.old.spare + more }) }
         ensures err { OnErr result (self.new ≡ self.old) }
@@ -92,7 +92,7 @@ impl Flight {
         Ok(())
     }
 
-    /// Gives back the promise of so many. So many have to be promised.
+    /// Gives back the promise of this many. This many have to be promised.
     pub fn give_back(&mut self, count: usize)
         requires { count ≤ self.old.spare }
         ensures { self.new ≡ record self.old { spare = self.old.spare - count } }
@@ -137,7 +137,7 @@ impl Flight {
         self.spare = 0;
     }
 
-    /// Sends so many completions of a read, at most 3 and none of them the last, into room that was promised.
+    /// Sends this many completions of a read, at most 3 and none of them the last, into room that was promised.
     pub fn push_parts(&mut self, number: u64, parts: usize)
         requires spare { parts ≤ self.old.spare }
         requires few { parts ≤ 3 }
@@ -151,7 +151,7 @@ impl Flight {
         }
     }
 
-    // Whether one of this kind may pass each of the first so many.
+    // Whether one of this kind may pass each of the first this many.
     fn passes(&self, kind: usize, count: usize) -> bool
         requires kind { kind < 4 }
         requires within { count ≤ length self.now.flying }

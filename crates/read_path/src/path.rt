@@ -31,7 +31,7 @@ impl Path {
     ///
     /// # Errors
     ///
-    /// [`AllocError`] only when out of memory.
+    /// [`AllocError`] if memory runs out.
     pub fn new(alloc: Global) -> Result<Path, AllocError>
         ensures { IfOk result (λ path. path ≡ fresh_path) }
     {
@@ -44,12 +44,12 @@ impl Path {
     }
 
     /// The side posts a write of 1 to 128 bytes to its peer's memory from the address `at` on, relaxed or strict. All
-    /// bytes have to lie in the memory. [`PostAnswer::LinkDown`] comes exactly where the link isn't up, and the write
-    /// is lost.
+    /// bytes have to lie in the memory. [`PostAnswer::LinkDown`] is returned if and only if the link isn't up, and the
+    /// write is lost.
     ///
     /// # Errors
     ///
-    /// [`AllocError`] only when out of memory and the link is up, and then nothing changes.
+    /// [`AllocError`] if memory runs out while the link is up, and then nothing changes.
     pub fn write(
         &mut self,
         side: Side,
@@ -77,13 +77,13 @@ impl Path {
 
     /// The side asks for `len` bytes, 1 to 512, of its peer's memory from the address `at` on. All have to lie in the
     /// memory. The answer has the number of the read: a side's reads count from 0, whatever sessions they are in.
-    /// [`ReadAnswer::LinkDown`] comes exactly where the link isn't up.
+    /// [`ReadAnswer::LinkDown`] is returned if and only if the link isn't up.
     ///
     /// Room is taken here for the completions and for the bytes.
     ///
     /// # Errors
     ///
-    /// [`AllocError`] only when out of memory and the link is up, and then nothing changes. It comes also to a side's
+    /// [`AllocError`] if memory runs out while the link is up, and then nothing changes. It comes also to a side's
     /// 2^64th read.
     pub fn read(&mut self, side: Side, at: u32, len: u32) -> Result<ReadAnswer, AllocError>
         requires some { 1 ≤ len }
@@ -106,12 +106,12 @@ impl Path {
 
     /// Lands what the side has in flight at this place, counted from 0 for the oldest. It takes no memory.
     ///
-    /// [`PathLand::Nothing`] comes exactly where no more than `place` are in flight. [`PathLand::Blocked`] comes
-    /// exactly where what stands there may not pass one of those before it (PCI Express Base 4.0, section 2.4). Both
-    /// change nothing. Else what stands there leaves the list. A write is stored in the peer's memory. A read request's
-    /// bytes are all read at once from the peer's memory. The peer posts its completions of 128 bytes each, the last
-    /// one with the rest; they are lost where the link isn't up. A completion is handed to the peer, which gets all
-    /// bytes of its read with the last one.
+    /// [`PathLand::Nothing`] is returned if and only if no more than `place` are in flight. [`PathLand::Blocked`] is
+    /// returned if and only if what stands there may not pass one of those before it (PCI Express Base 4.0, section
+    /// 2.4). Both change nothing. Else what stands there leaves the list. A write is stored in the peer's memory. A
+    /// read request's bytes are all read at once from the peer's memory. The peer posts its completions of 128 bytes
+    /// each, the last one with the rest; they are lost where the link isn't up. A completion is handed to the peer,
+    /// which gets all bytes of its read with the last one.
     ///
     /// It looks at what stands before the place, and at the front costs the same however much is in flight.
     pub fn land(&mut self, side: Side, place: usize) -> PathLand
@@ -129,7 +129,7 @@ impl Path {
     ///
     /// # Errors
     ///
-    /// [`LinkRefusal::NotUp`] exactly where the link isn't up, and then nothing changes.
+    /// [`LinkRefusal::NotUp`] if and only if the link isn't up, and then nothing changes.
     pub fn cut(&mut self) -> Result<(), LinkRefusal>
         ensures refusal { result_err result ≡ cut_refusal self.old }
         ensures after { self.new ≡ after_cut self.old }
@@ -141,7 +141,7 @@ impl Path {
     ///
     /// # Errors
     ///
-    /// [`LinkRefusal::NotClosing`] exactly where the link isn't closing, and then nothing changes.
+    /// [`LinkRefusal::NotClosing`] if and only if the link isn't closing, and then nothing changes.
     pub fn drop_done(&mut self) -> Result<(), LinkRefusal>
         ensures refusal { result_err result ≡ drop_refusal self.old }
         ensures after { self.new ≡ after_drop self.old }
@@ -156,8 +156,8 @@ impl Path {
     ///
     /// # Errors
     ///
-    /// [`LinkRefusal::NotDown`] exactly where the link isn't down, and else [`LinkRefusal::SessionsSpent`] where 65,535
-    /// sessions were used. Then nothing changes.
+    /// [`LinkRefusal::NotDown`] if and only if the link isn't down, and else [`LinkRefusal::SessionsSpent`] where
+    /// 65,535 sessions were used. Then nothing changes.
     pub fn relink(&mut self) -> Result<(), LinkRefusal>
         ensures refusal { result_err result ≡ relink_refusal self.old }
         ensures after { self.new ≡ after_relink self.old }
@@ -176,7 +176,7 @@ impl Path {
     ///
     /// # Errors
     ///
-    /// [`AllocError`] only when out of memory.
+    /// [`AllocError`] if memory runs out.
     pub fn show(&self, side: Side, at: u32, len: u32) -> Result<Frame, AllocError>
         requires { at + len ≤ memory_bytes }
         ensures { IfOk result (λ frame. frame ≡ shown self.now side at len) }

@@ -63,7 +63,7 @@ pub enum PathLand {
     Nothing,
     /// It may not pass one of those before it, and stays.
     Blocked,
-    /// A write landed: so many bytes at this address.
+    /// A write landed: this many bytes at this address.
     Write { at: u32, len: u32 },
     /// The request of the side's read of this number landed, and its bytes were read.
     Request { number: u64 },

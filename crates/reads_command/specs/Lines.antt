@@ -15,7 +15,7 @@ use Rattle.read_path.specs.declared.steps.PathStep.TheVariants.{Write, Read, Lan
 abbrev pub most_show_bytes : ℕ
 most_show_bytes = 64
 
--- so many bytes from an address on don't lie in a side's memory
+-- this many bytes from an address on don't lie in a side's memory
 abbrev pub leaves_memory : ℕ → ℕ → Bool
 leaves_memory at len = nat_lt memory_bytes (at + len)
 
@@ -97,7 +97,7 @@ header_line line = do
   _ ← fault_if (not (is_header (words_of line))) BadHeader
   Ok None
 
--- what line n gives, where so many steps stand before it: the header and a line that says nothing give none
+-- what line n gives, where this many steps stand before it: the header and a line that says nothing give none
 abbrev pub line_gives : ℕ → ℕ → List ℕ → Result (Option PathStep) Cause
 line_gives n steps line =
     if n == 1 then header_line line
@@ -124,7 +124,7 @@ go_on n (Err cause) without with_one = Err n
 go_on n (Ok None) without with_one = without
 go_on n (Ok (Some step)) without with_one = before_more n step with_one
 
--- the steps of the lines from number n on, where so many steps stand before them, or the number of the first bad line
+-- the steps of the lines from number n on, where this many steps stand before them, or the number of the first bad line
 abbrev pub read_lines : ℕ → ℕ → List (List ℕ) → Result (List LineStep) ℕ
 read_lines n steps [] = Ok []
 read_lines n steps (line ∷ lines) = go_on n (line_gives n steps line) (read_lines (n + 1) steps lines) (read_lines (n + 1) (steps + 1) lines)

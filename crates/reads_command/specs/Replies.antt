@@ -21,7 +21,7 @@ Replies (Err OutOfMemory) due = Unit {0}
 abbrev pub TextPushed : List ℕ → Type 0
 TextPushed bytes = IfOk (steps_of bytes) (λ steps. Pushed (log_of_lines steps))
 
--- so many steps, the path after them, and the lines of their answers
+-- this many steps, the path after them, and the lines of their answers
 pub record ReplyState : Type 0 where
   pub steps : ℕ
   pub path : PathState

@@ -6,7 +6,7 @@ use Rattle.read_path.specs.Path.{memory_bytes, most_read_bytes}
 use Rattle.read_path.specs.declared.steps.PathStep.{PathStep}
 use Rattle.read_path.specs.declared.steps.PathStep.TheVariants.{Write, Read, Land, Show, Break, DropDone, Relink}
 
--- a byte at least and so many at most, and all in a side's memory
+-- a byte at least and this many at most, and all in a side's memory
 pub record IsRange (most at len : ℕ) : Type 0 where
   pub some : 1 ≤ len
   pub few : len ≤ most

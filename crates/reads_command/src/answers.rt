@@ -14,8 +14,8 @@ use read_path::{Path, PathAnswer, PathLand, PathStep, PostAnswer, ReadAnswer};
 use report_text::append::{push_hex, push_numbers, push_word};
 use std::alloc::AllocError;
 
-/// Makes a step on a path. Its bytes are as many as such a step may have, and lie in a side's memory (`Fits`). The only
-/// error is running out of memory.
+/// Makes a step on a path. Its bytes are as many as such a step may have, and lie in a side's memory (`Fits`). Returns
+/// an error if memory runs out.
 pub fn make_step(path: &mut Path, step: &PathStep) -> Result<PathAnswer, AllocError>
     requires { Fits step.now }
     ensures answer { IfOk result (λ answer. answer ≡ answer_to path.old step.now) }
@@ -51,8 +51,7 @@ pub fn make_step(path: &mut Path, step: &PathStep) -> Result<PathAnswer, AllocEr
     })
 }
 
-/// Adds the line of an answer. The only error is running out of memory, and then some part of the line may have been
-/// added.
+/// Adds the line of an answer. Returns an error if memory runs out, and then some part of the line may have been added.
 pub fn push_line(text: &mut Vec<u8>, line: u32, answer: &PathAnswer) -> Result<(), AllocError>
     ensures { OnOk result (text.new.items ≡ text.old.items ++ made_line line answer.now) }
 {

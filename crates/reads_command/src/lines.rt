@@ -28,7 +28,7 @@ fn read_order(word: &[u8]) -> Option<bool>
     }
 }
 
-/// Whether so many bytes from an address on leave a side's memory.
+/// Whether this many bytes from an address on leave a side's memory.
 fn leaves_memory(at: u32, len: u32) -> bool
     ensures { result ≡ rules.leaves_memory at len }
 {
@@ -200,8 +200,8 @@ fn header_line<'a>(words: &mut Vec<&'a [u8]>, line: &'a [u8]) -> Result<Option<P
     Ok(None)
 }
 
-/// The step that line `number` gives, where so many steps stand before it: the first line, a comment and a line without
-/// words give none. Its words are read into `words`.
+/// The step that line `number` gives, where this many steps stand before it: the first line, a comment and a line
+/// without words give none. Its words are read into `words`.
 ///
 /// Line 1, and each other line that has words and is no comment, may have a fault. It is the first of these:
 ///
@@ -210,7 +210,7 @@ fn header_line<'a>(words: &mut Vec<&'a [u8]>, line: &'a [u8]) -> Result<Option<P
 /// - Of any other, that of its words: `UnknownWord`, `BadName`, `BadNumber` or `BadHex`.
 /// - Of any other, `TooMany` where as many steps stand before it as a text may have.
 ///
-/// The only other error is running out of memory.
+/// Returns the other error if memory runs out.
 pub fn read_line<'a>(
     alloc: Global,
     number: u32,

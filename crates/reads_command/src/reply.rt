@@ -79,7 +79,7 @@ impl Reply {
 ///
 /// # Errors
 ///
-/// [`ReadsError::BadLine`] exactly for the first bad line; [`ReadsError::OutOfMemory`] only when out of memory.
+/// [`ReadsError::BadLine`] exactly for the first bad line; [`ReadsError::OutOfMemory`] if memory runs out.
 pub fn reads_text(alloc: Global, bytes: &[u8]) -> Result<Vec<u8>, ReadsError>
     requires { length bytes.now ≤ most_script_bytes }
     ensures reply { Replies (result_map (λ text. text.items) result) (reply_to bytes.now) }

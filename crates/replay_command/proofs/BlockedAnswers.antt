@@ -33,7 +33,7 @@ blocked_counted (line ∷ lines) (made ∷ log) n same few =
     ap (λ (count : ℕ). fold with_blocked count (answered_steps lines log)) (counted_one (is_blocked made.answer) n (omega arith))
     ∙ blocked_counted lines log (n + cond (is_blocked made.answer) 1 0) (omega arith) (omega arith)
 
--- The same answer, so many times
+-- The same answer, this many times
 
 -- Counting a blocked answer a number of times adds that number to the count, up to 2^64 - 1.
 pub blocked_times : (answered : AnsweredStep) (count n : ℕ) → is_blocked answered.made.answer ≡ true → n ≤ 2 ^ 64 - 1 → fold with_blocked n (replicate count answered) ≡ min (n + count) (2 ^ 64 - 1)

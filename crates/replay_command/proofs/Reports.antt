@@ -54,7 +54,7 @@ answers_kept (line ∷ lines) (made ∷ log) text =
     let own : List ℕ = answer_line (record { line = line.line; answer = made.answer }) in
     answers_kept lines log (text ++ own) ∙ append_assoc text own (answers_text lines log)
 
--- one line so many times is what is kept of as many answers
+-- one line this many times is what is kept of as many answers
 pub lines_again : (count : ℕ) (answered : AnsweredStep) (text : List ℕ) →
     text ++ flat_map answer_line (replicate count answered.made) ≡ fold (λ (text : List ℕ) (answered : AnsweredStep). text ++ answer_line answered.made) text (replicate count answered)
 lines_again zero answered text = append-nil text

@@ -1,5 +1,5 @@
 -- What a plan's log keeps. On ordinary pairs it is in order and once, also over lanes that switches join, and refuses
--- for want of room exactly where it should. On every pair it refuses for want of the link exactly where it should.
+-- for want of room if and only if it should. On every pair it refuses for want of the link if and only if it should.
 use Rattle.std.specs.Prelude.{◌≡◌, ℕ, ◌<◌, ◌&&◌, not, Some, List, [], ◌∷◌, ◌++◌, nat_lt}
 use Rattle.step_kinds.specs.Subject.{subject_of}
 use Rattle.step_kinds.specs.declared.names.LaneName.{LaneName}
@@ -29,12 +29,14 @@ pub record IsTrueLog (plan : Plan) : Type 0 where
   pub in_order : (lane : LaneName) (session : ℕ) → IsOrdinaryPair plan lane.pair → IsInOrder plan (log_of_plan plan) lane session
   -- no frame is delivered twice
   pub once : (lane : LaneName) (session n : ℕ) → IsOrdinaryPair plan lane.pair → times_of n (delivered plan (log_of_plan plan) lane session) < 2
-  -- `again` comes exactly where the step isn't refused for another reason, and the ring has less room than it needs
+  -- `again` is returned if and only if the step isn't refused for another reason, and the ring has less room than it
+  -- needs
   pub again : (before behind : List Step) (step : Step) (made : Answered) (lane : LaneName) → IsStepOf plan before behind step made →
       IsOrdinaryPair plan lane.pair → lane_begun_by made.step ≡ Some lane →
       is_again made.answer ≡ (not (refused_earlier plan (bridge_ledger plan (memory_of plan) before lane.pair) made.step)
       && nat_lt (room_in plan (log_so_far plan before) lane) (entries_needed plan lane made.step))
-  -- `linkdown` comes exactly on the steps that need a link, exactly where the pair's link isn't up by the log (`up_at`)
+  -- `linkdown` comes exactly on the steps that need a link, if and only if the pair's link isn't up by the log
+  -- (`up_at`)
   pub link_down : (before behind : List Step) (step : Step) (made : Answered) → IsStepOf plan before behind step made →
       is_link_down made.answer ≡ (needs_link made.step && not (up_at plan (subject_of made.step) (log_so_far plan before)))
   -- the frames that went over some lanes, one after another by switches, are whole, each once and in the order of the

@@ -61,7 +61,7 @@ impl KeepsAnswers for BlockedCount {
 }
 
 /// The summary of a generated load of 1 to 30,000 frames: how many were accepted and delivered, and how many landings
-/// were refused by the order rules. The only error is running out of memory.
+/// were refused by the order rules. Returns an error if memory runs out.
 pub fn load_text(alloc: Global, seed: u64, frames: u32) -> Result<Vec<u8>, AllocError>
     requires some { 1 ≤ frames }
     requires few { frames ≤ most_load_frames }

@@ -30,7 +30,7 @@ repeat_by_blocks count xs =
     let all : count / 64 * 64 + count % 64 ≡ count = omega arith in
     ap (λ l. l ++ repeat (count % 64) xs) (repeat-mul (count / 64) 64 xs) ∙ sym (repeat-add (count / 64 * 64) (count % 64) xs) ∙ ap (λ n. repeat n xs) all
 
--- The lines of an element so many times are its line so many times.
+-- The lines of an element this many times are its line this many times.
 pub lines_of_copies : {X Y : Type 0} (f : X → List Y) (n : ℕ) (x : X) → flat_map f (replicate n x) ≡ repeat n (f x)
 lines_of_copies f zero x = refl
 lines_of_copies f (suc n) x = ap (λ l. f x ++ l) (lines_of_copies f n x)

@@ -40,8 +40,8 @@ impl AnswerLines {
         }
     }
 
-    /// Adds the line of an answer: the number of its script line, a space, and the answer's text. The only error is out
-    /// of memory, and then some part of the line may have been added.
+    /// Adds the line of an answer: the number of its script line, a space, and the answer's text. Returns an error if
+    /// memory runs out, and then some part of the line may have been added.
     pub fn push(&mut self, made: &LineAnswer) -> Result<(), AllocError>
         ensures { OnOk result (self.new ≡ self.old ++ answer_line made.now) }
     {
@@ -57,8 +57,8 @@ impl AnswerLines {
         Ok(())
     }
 
-    /// Adds the line of an answer so many times. The only error is out of memory, and then some of them may have been
-    /// added.
+    /// Adds the line of an answer this many times. Returns an error if memory runs out, and then some of them may have
+    /// been added.
     pub fn push_times(&mut self, made: &LineAnswer, count: u32) -> Result<(), AllocError>
         ensures { OnOk result (self.new ≡ self.old ++ flat_map answer_line (replicate count made.now)) }
     {
@@ -68,7 +68,7 @@ impl AnswerLines {
         push_repeated(&mut self.text, &mut self.block, &self.again, count)
     }
 
-    /// All lines. The only error is out of memory.
+    /// All lines. Returns an error if memory runs out.
     pub fn into_text(self) -> Result<Vec<u8>, AllocError>
         ensures { IfOk result (λ text. text.items ≡ self) }
     {
@@ -97,8 +97,8 @@ fn gather(text: &mut Vec<u8>, last: &mut LineText) -> Result<(), AllocError>
     Ok(())
 }
 
-/// Adds the line of an answer: the number of its script line, a space, and the answer's text. The only error is out of
-/// memory, and then some part of the line may have been added.
+/// Adds the line of an answer: the number of its script line, a space, and the answer's text. Returns an error if
+/// memory runs out, and then some part of the line may have been added.
 pub fn push_answer_line(text: &mut Vec<u8>, made: &LineAnswer) -> Result<(), AllocError>
     ensures { OnOk result (text.new.items ≡ text.old.items ++ answer_line made.now) }
 {

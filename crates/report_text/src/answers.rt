@@ -15,8 +15,7 @@ const LABEL_ROOM: usize = 68;
 /// The most bytes of an answer's text before its bytes: a word of five letters, a number, a space and a label.
 pub const START_ROOM: usize = 95;
 
-/// The text of an answer, as it stands in a report after the number of its line. The only error is running out of
-/// memory.
+/// The text of an answer, as it is in a report after the number of its line. Returns an error if memory runs out.
 pub fn text_of(alloc: Global, answer: &Answer) -> Result<Vec<u8>, AllocError>
     ensures { IfOk result (λ text. text.items ≡ answer_text answer.now) }
 {
@@ -25,8 +24,8 @@ pub fn text_of(alloc: Global, answer: &Answer) -> Result<Vec<u8>, AllocError>
     Ok(text)
 }
 
-/// Adds the text of an answer: a word, and then its numbers, its label or its bytes. The only error is running out of
-/// memory, and then some part of the text may have been added.
+/// Adds the text of an answer: a word, and then its numbers, its label or its bytes. Returns an error if memory runs
+/// out, and then some part of the text may have been added.
 pub fn push_answer(text: &mut Vec<u8>, answer: &Answer) -> Result<(), AllocError>
     ensures { OnOk result (text.new.items ≡ text.old.items ++ answer_text answer.now) }
 {
@@ -36,8 +35,8 @@ pub fn push_answer(text: &mut Vec<u8>, answer: &Answer) -> Result<(), AllocError
     push_bytes(text, answer)
 }
 
-/// Adds the bytes that an answer ends with, if it does. The only error is running out of memory, and then some part of
-/// them may have been added.
+/// Adds the bytes that an answer ends with, if it does. Returns an error if memory runs out, and then some part of them
+/// may have been added.
 pub fn push_bytes(text: &mut Vec<u8>, answer: &Answer) -> Result<(), AllocError>
     ensures { OnOk result (text.new.items ≡ text.old.items ++ bytes_text answer.now) }
 {

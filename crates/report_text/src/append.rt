@@ -15,7 +15,7 @@ const COPIES: u32 = 64;
 ///
 /// # Errors
 ///
-/// [`AllocError`] only when out of memory, and then some part may have been added.
+/// [`AllocError`] if memory runs out, and then some part may have been added.
 pub fn push_word(text: &mut Vec<u8>, word: &str) -> Result<(), AllocError>
     ensures { OnOk result (text.new.items ≡ text.old.items ++ word.now) }
 {
@@ -26,7 +26,7 @@ pub fn push_word(text: &mut Vec<u8>, word: &str) -> Result<(), AllocError>
 ///
 /// # Errors
 ///
-/// [`AllocError`] only when out of memory, and then some part may have been added.
+/// [`AllocError`] if memory runs out, and then some part may have been added.
 pub fn push_numbers(text: &mut Vec<u8>, numbers: &[u64]) -> Result<(), AllocError>
     ensures { OnOk result (text.new.items ≡ text.old.items ++ numbers_text numbers.now) }
 {
@@ -42,7 +42,7 @@ pub fn push_numbers(text: &mut Vec<u8>, numbers: &[u64]) -> Result<(), AllocErro
 ///
 /// # Errors
 ///
-/// [`AllocError`] only when out of memory, and then some part may have been added.
+/// [`AllocError`] if memory runs out, and then some part may have been added.
 #[inline(never)]
 pub fn push_hex(text: &mut Vec<u8>, bytes: &[u8]) -> Result<(), AllocError>
     ensures { OnOk result (text.new.items ≡ text.old.items ++ encode_lower bytes.now) }
@@ -58,7 +58,7 @@ pub fn push_hex(text: &mut Vec<u8>, bytes: &[u8]) -> Result<(), AllocError>
 ///
 /// # Errors
 ///
-/// [`AllocError`] only when out of memory, and then some part may have been added.
+/// [`AllocError`] if memory runs out, and then some part may have been added.
 pub fn push_frame(text: &mut Vec<u8>, bytes: &[u8]) -> Result<(), AllocError>
     ensures { OnOk result (text.new.items ≡ text.old.items ++ frame_text bytes.now) }
 {
@@ -68,12 +68,12 @@ pub fn push_frame(text: &mut Vec<u8>, bytes: &[u8]) -> Result<(), AllocError>
     push_hex(text, bytes)
 }
 
-/// Adds bytes so many times. The block is a place for many copies, which are then added at a time; what stood there may
-/// be gone.
+/// Adds bytes this many times. The block is a place for many copies, which are then added at a time; what stood there
+/// may be gone.
 ///
 /// # Errors
 ///
-/// [`AllocError`] only when out of memory, and then some part may have been added.
+/// [`AllocError`] if memory runs out, and then some part may have been added.
 pub fn push_repeated(
     text: &mut Vec<u8>,
     block: &mut Vec<u8>,
@@ -91,7 +91,7 @@ pub fn push_repeated(
     push_copies(text, bytes, count % COPIES)
 }
 
-// Adds bytes so many times, one copy at a time.
+// Adds bytes this many times, one copy at a time.
 fn push_copies(text: &mut Vec<u8>, bytes: &[u8], count: u32) -> Result<(), AllocError>
     ensures { OnOk result (text.new.items ≡ text.old.items ++ repeat count bytes.now) }
 {

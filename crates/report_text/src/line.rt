@@ -140,7 +140,7 @@ impl LineText {
         self.put_some(&bytes, len);
     }
 
-    // Adds so many bytes of an array. There is room for all of them.
+    // Adds this many bytes of an array. There is room for all of them.
     #[inline(always)]
     fn put_some(&mut self, bytes: &[u8; DIGITS], len: usize)
         requires few { len ≤ DIGITS }

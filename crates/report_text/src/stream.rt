@@ -10,7 +10,7 @@ use std::alloc::AllocError;
 use step_kinds::{FrameList, LaneName, PairPlan};
 
 /// Adds the lines of a lane's stream: how many items it brought over how many sessions, then the items, numbered from
-/// 0. The only error is running out of memory; a part of the lines may be added then.
+/// 0. Returns an error if memory runs out; a part of the lines may be added then.
 ///
 /// The lane names one of the pairs.
 pub fn push_stream(

@@ -10,8 +10,8 @@ use std::alloc::{AllocError, Global};
 use step_kinds::{Counters, DevPlan, LaneCount, LaneName, LineAnswer, PairPlan, Plan, Side};
 
 /// The report of a replay: a line for each answer in order, with the number of its script line. Then come a line for
-/// each lane and session where a frame was accepted or delivered, a line for each device of the plan, and `end`. The
-/// only error is out of memory.
+/// each lane and session where a frame was accepted or delivered, a line for each device of the plan, and `end`.
+/// Returns an error if memory runs out.
 ///
 /// Each lane names a pair of the plan, and there are as many counters as the plan has devices.
 pub fn report(
@@ -35,8 +35,8 @@ pub fn report(
 }
 
 /// Adds what a report ends with, after its answers. That is a line for each lane and session where a frame was accepted
-/// or delivered, a line for each device of the plan, and `end`. The only error is running out of memory, and then some
-/// part of the text may have been added.
+/// or delivered, a line for each device of the plan, and `end`. Returns an error if memory runs out, and then some part
+/// of the text may have been added.
 ///
 /// Each lane names a pair of the plan, and there are as many counters as the plan has devices.
 pub fn push_ending(
@@ -81,7 +81,7 @@ fn push_count(text: &mut Vec<u8>, pairs: &[PairPlan], count: &LaneCount) -> Resu
     push_word(text, "\n")
 }
 
-/// Adds a lane in a session. The only error is running out of memory, and then some part of it may have been added. The
+/// Adds a lane in a session. Returns an error if memory runs out, and then some part of it may have been added. The
 /// lane names one of the pairs.
 pub fn push_lane(
     text: &mut Vec<u8>,

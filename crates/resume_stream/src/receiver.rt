@@ -36,14 +36,14 @@ impl StreamReceiver {
     /// Takes the next frame of the session. Fewer than 2^32 - 1 items are kept.
     ///
     /// - A session's first frame is [`TakeAnswer::Start`], and its number is that of the next item. It is
-    ///   [`TakeAnswer::Bad`] exactly where it hasn't four bytes, or its number is above the number of items that are
+    ///   [`TakeAnswer::Bad`] if and only if it hasn't four bytes, or its number is above the number of items that are
     ///   kept. After such a `Bad` all frames of the session are `Bad`, and are dropped.
-    /// - A later frame is the next item. It is [`TakeAnswer::Kept`], and kept after all others, exactly where its
+    /// - A later frame is the next item. It is [`TakeAnswer::Kept`], and kept after all others, if and only if its
     ///   number is the number of items that are kept; else it is [`TakeAnswer::Old`], and is dropped.
     ///
     /// # Errors
     ///
-    /// [`AllocError`] only when out of memory. Then the frame is dropped, and the receiver is as it was.
+    /// [`AllocError`] if memory runs out. Then the frame is dropped, and the receiver is as it was.
     pub fn take(&mut self, frame: Frame) -> Result<TakeAnswer, AllocError>
         requires { length self.old.items < most_items }
         ensures answer { IfOk result (λ answer. answer ≡ take_answer self.old frame) }
@@ -71,8 +71,8 @@ impl StreamReceiver {
         }
     }
 
-    /// The acknowledgement: a frame of four bytes that says how many items are kept. The only error is running out of
-    /// memory.
+    /// The acknowledgement: a frame of four bytes that says how many items are kept. Returns an error if memory runs
+    /// out.
     pub fn ack_frame(&self) -> Result<Frame, AllocError>
         ensures { IfOk result (λ frame. frame ≡ ack_frame self.now) }
     {
@@ -112,7 +112,7 @@ impl Model for StreamReceiver {
     ghost invariant = { λ receiver. IsReceiver receiver.items.frames receiver.session };
 }
 
-// What a session's first frame is to a receiver that keeps so many items, and where the receiver stands after it.
+// What a session's first frame is to a receiver that keeps this many items, and where the receiver stands after it.
 fn first_frame(frame: &Frame, count: u32) -> (TakeAnswer, Session)
     ensures answer { result.0 ≡ start_answer count (number_in frame.now) }
     ensures session { result.1 ≡ session_from count (number_in frame.now) }

@@ -11,8 +11,8 @@ use step_kinds::{Frame, FrameList};
 use stream_model::{AckAnswer, Place};
 
 /// The sending end of a stream of items. Contracts see a `Sender` of [`stream_model`]: the items, the number that was
-/// acknowledged, the number at which the session starts, and how far the sender is. Where its last change was that it
-/// gave a frame, they also see how far it was before.
+/// acknowledged, the number at which the session starts, and how far the sender is. If its last change was that it gave
+/// a frame, they also see how far it was before.
 #[derive(Drop)]
 pub struct StreamSender {
     alloc: Global,
@@ -41,12 +41,12 @@ impl StreamSender {
     }
 
     /// Gives the next frame of the session: first the frame of the number at which the session starts, then a copy of
-    /// each item from that number on. `None` exactly where all of them were given, and then nothing changes. A frame
+    /// each item from that number on. `None` if and only if all of them were given, and then nothing changes. A frame
     /// that is answered can be given back until the sender changes again.
     ///
     /// # Errors
     ///
-    /// [`AllocError`] only when out of memory, and then nothing changes.
+    /// [`AllocError`] if memory runs out, and then nothing changes.
     pub fn next_frame(&mut self) -> Result<Option<Frame>, AllocError>
         ensures frame { IfOk result (λ frame. frame ≡ next_frame self.old) }
         ensures after { OnOk result (self.new ≡ after_next_frame self.old) }
@@ -85,8 +85,8 @@ impl StreamSender {
 
     /// Takes an acknowledgement. It takes no memory.
     ///
-    /// 1. [`AckAnswer::Bad`] exactly where the frame hasn't four bytes, or its number is above the number of items that
-    ///    were ever given. Nothing changes.
+    /// 1. [`AckAnswer::Bad`] if and only if the frame hasn't four bytes, or its number is above the number of items
+    ///    that were ever given. Nothing changes.
     /// 2. [`AckAnswer::Newer`] where its number is above the one that was acknowledged, which it becomes.
     /// 3. Else [`AckAnswer::Old`], and nothing changes.
     pub fn take_ack(&mut self, frame: &Frame) -> AckAnswer

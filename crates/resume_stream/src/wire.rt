@@ -26,7 +26,7 @@ impl Wire {
         }
     }
 
-    /// A frame is given to the direction, after all others. The only error is running out of memory.
+    /// A frame is given to the direction, after all others. Returns an error if memory runs out.
     pub fn push(&mut self, frame: Frame) -> Result<(), AllocError>
         ensures { OnOk result (self.new ≡ with_frame self.old frame) }
     {

@@ -24,7 +24,7 @@ use stream_model::StreamEvent;
 ///
 /// # Errors
 ///
-/// [`AllocError`] only when out of memory.
+/// [`AllocError`] if memory runs out.
 pub fn run_world(
     alloc: Global,
     items: FrameList,
@@ -63,7 +63,7 @@ struct Ends {
 }
 
 impl Ends {
-    // Makes an event, which changes nothing where it can't be made. The only error is running out of memory.
+    // Makes an event, which changes nothing where it can't be made. Returns an error if memory runs out.
     fn make(&mut self, alloc: Global, event: StreamEvent) -> Result<(), AllocError>
         requires room { length self.old.receiver.items < most_items }
         requires last { can_give_back self.old ≡ true → last_given self.old.sender ≡ last_frame self.old.forward }
@@ -102,7 +102,7 @@ impl Model for Ends {
     ghost view = { λ ends. record { sender = ends.sender; receiver = ends.receiver; forward = ends.forward; back = ends.back } };
 }
 
-// The sender's next frame, where it has one, is given to the direction. The only error is running out of memory.
+// The sender's next frame, where it has one, is given to the direction. Returns an error if memory runs out.
 fn give(sender: &mut StreamSender, forward: &mut Wire) -> Result<(), AllocError>
     ensures sender { OnOk result (sender.new ≡ after_next_frame sender.old) }
     ensures forward { OnOk result (forward.new ≡ with_any forward.old (next_frame sender.old)) }
@@ -113,7 +113,7 @@ fn give(sender: &mut StreamSender, forward: &mut Wire) -> Result<(), AllocError>
     Ok(())
 }
 
-// The first frame that waits is carried to the receiver. The only error is running out of memory.
+// The first frame that waits is carried to the receiver. Returns an error if memory runs out.
 fn carry(receiver: &mut StreamReceiver, forward: &mut Wire, alloc: Global) -> Result<(), AllocError>
     requires { length receiver.old.items < most_items }
     ensures receiver { OnOk result (receiver.new ≡ taken_any receiver.old (first_waiting forward.old)) }

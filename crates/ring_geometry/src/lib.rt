@@ -65,7 +65,7 @@ impl Geometry {
     ///
     /// # Errors
     ///
-    /// [`BadGeometry`] exactly where `windows` is 0, `queue` isn't below `queues`, the area hasn't four bytes for the
+    /// [`BadGeometry`] if and only if `windows` is 0, `queue` isn't below `queues`, the area hasn't four bytes for the
     /// index word, or an entry hasn't the header and four bytes more.
     pub fn new(
         window: u64,

@@ -68,7 +68,7 @@ frames_stay old more lane i count len most h room e =
     let part = flood_frames lane i len in
     rw e (omega arith)
 
--- Where a whole flood fits the limit of bytes, the traffic with a part of it has room for one frame more of it.
+-- If a whole flood fits the limit of bytes, the traffic with a part of it has room for one frame more of it.
 pub bytes_stay : (old more : List Traffic) (lane : LaneName) (i count len most size : ℕ) → i < count → sum (map bytes_in old) + count * len ≤ most → more ≡ old ++ flood_of lane i len → size ≡ len
     → sum (map bytes_in more) + size ≤ most
 bytes_stay old more lane i count len most size h room e same =

@@ -57,7 +57,7 @@ impl<T: Named> Declared<T> {
         &self.names
     }
 
-    /// The number of the one with the name, from 0; `None` exactly where none has it.
+    /// The number of the one with the name, from 0; `None` if and only if none has it.
     pub fn number(&self, name: &[u8]) -> Option<u32>
         ensures value { result ≡ number_named (map T.called self.now) name.now }
         ensures below { IfSome result (λ k. k < length self.now) }
@@ -65,7 +65,7 @@ impl<T: Named> Declared<T> {
         self.names.number(name)
     }
 
-    /// Adds one whose name is new to fewer than 64. The only error is running out of memory, and then nothing is added.
+    /// Adds one whose name is new to fewer than 64. Returns an error if memory runs out, and then nothing is added.
     pub fn push(&mut self, alloc: Global, item: T) -> Result<(), AllocError>
         requires new { has_name (map T.called self.old) (T.called item) ≡ false }
         requires few { length self.old < 64 }

@@ -8,7 +8,7 @@ use indexmap::IndexSet;
 use std::alloc::{AllocError, Global};
 use std::marker::Model;
 
-/// Among so many names at most one is found sooner by comparing them in turn than by its hash.
+/// Among this many names at most one is found sooner by comparing them in turn than by its hash.
 const MOST_IN_TURN: usize = 16;
 
 /// The names of the hosts, the pairs, the devices or the switches, in the order of their declaration.
@@ -43,7 +43,7 @@ impl Names {
         self.names.contains(name)
     }
 
-    /// The number of the name, from 0; `None` exactly where it isn't among them.
+    /// The number of the name, from 0; `None` if and only if it isn't among them.
     pub fn number(&self, name: &[u8]) -> Option<u32>
         ensures value { result ≡ number_named self.now name.now }
         ensures below { IfSome result (λ k. k < length self.now) }
@@ -65,7 +65,7 @@ impl Names {
         }
     }
 
-    /// Adds a name that isn't there yet to fewer than 64. The only error is running out of memory, and then nothing is
+    /// Adds a name that isn't there yet to fewer than 64. Returns an error if memory runs out, and then nothing is
     /// added.
     pub fn push(&mut self, alloc: Global, name: &[u8]) -> Result<(), AllocError>
         requires new { has_name self.old name.now ≡ false }

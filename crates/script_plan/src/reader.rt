@@ -218,8 +218,8 @@ impl Reader {
         Ok(())
     }
 
-    /// Adds the steps of line `line`, with which there are 1,000,000 at most. The only error is running out of memory,
-    /// and then nothing is added.
+    /// Adds the steps of line `line`, with which there are 1,000,000 at most. Returns an error if memory runs out, and
+    /// then nothing is added.
     #[inline(always)]
     pub fn add_steps(&mut self, line: u32, more: Macro) -> Result<(), AllocError>
         requires { length self.old.plan.steps + length (steps_of more) ≤ most_steps }
@@ -232,8 +232,8 @@ impl Reader {
         Ok(())
     }
 
-    /// Adds the only step of line `line` to fewer than 1,000,000. The only error is running out of memory, and then
-    /// nothing is added.
+    /// Adds the only step of line `line` to fewer than 1,000,000. Returns an error if memory runs out, and then nothing
+    /// is added.
     pub fn add_step(&mut self, line: u32, step: Step) -> Result<(), AllocError>
         requires { length self.old.plan.steps < most_steps }
         ensures ok { OnOk result (self.new ≡ with_given line self.old (MoreSteps (step ∷ []))) }
@@ -244,8 +244,8 @@ impl Reader {
         Ok(())
     }
 
-    /// Adds what line `line` gives beside steps. The only error is running out of memory, and then no more is said of
-    /// what the lines so far give.
+    /// Adds what line `line` gives beside steps. Returns an error if memory runs out, and then no more is said of what
+    /// the lines so far give.
     ///
     /// A name has to be new, a pair, device, class or switch as a script can declare it, and no limit is passed. A pair
     /// that loses its link has a number below 16.

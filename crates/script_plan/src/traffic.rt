@@ -34,7 +34,7 @@ impl TrafficList {
         }
     }
 
-    /// Whether the traffic stays within the limits with so many more frames of so many bytes in all.
+    /// Whether the traffic stays within the limits with this many more frames of this many bytes in all.
     pub fn has_room(&self, frames: u64, bytes: u64) -> bool
         ensures { result ≡ (nat_le (sum (map frames_in self.now) + frames) most_traffic_frames && nat_le (sum (map bytes_in self.now) + bytes) most_traffic_bytes) }
     {
@@ -51,8 +51,8 @@ impl TrafficList {
         self.breaks[pair as usize]
     }
 
-    /// Adds a frame, with which the traffic is within its limits of frames and bytes. The only error is running out of
-    /// memory, and then nothing is added.
+    /// Adds a frame, with which the traffic is within its limits of frames and bytes. Returns an error if memory runs
+    /// out, and then nothing is added.
     pub fn push_frame(&mut self, lane: LaneName, frame: Frame) -> Result<(), AllocError>
         requires frames { sum (map frames_in self.old) + 1 ≤ most_traffic_frames }
         requires bytes { sum (map bytes_in self.old) + length frame ≤ most_traffic_bytes }
@@ -66,8 +66,8 @@ impl TrafficList {
         Ok(())
     }
 
-    /// Adds a link loss of a pair, whose number is below 16, to fewer than 100. The only error is running out of
-    /// memory, and then nothing is added.
+    /// Adds a link loss of a pair, whose number is below 16, to fewer than 100. Returns an error if memory runs out,
+    /// and then nothing is added.
     pub fn push_break(&mut self, pair: u32) -> Result<(), AllocError>
         requires pair { pair < 16 }
         requires few { count_by (is_break_of pair) self.old < most_breaks }
@@ -79,8 +79,8 @@ impl TrafficList {
         Ok(())
     }
 
-    /// Adds so many frames of so many bytes each, at most 65,536. With them the traffic is within its limits of frames
-    /// and bytes. The only error is running out of memory, and then some of them may be added.
+    /// Adds this many frames of this many bytes each, at most 65,536. With them the traffic is within its limits of
+    /// frames and bytes. Returns an error if memory runs out, and then some of them may be added.
     pub fn push_flood(
         &mut self,
         alloc: Global,

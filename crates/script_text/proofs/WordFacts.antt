@@ -29,7 +29,7 @@ filter_filled ((b ∷ word) ∷ parts) = (omega arith, filter_filled parts)
 
 -- Names
 
--- Where the test that one number isn't below another fails, it is below it.
+-- If the test that one number isn't below another fails, it is below it.
 pub below : (a b : ℕ) → not (nat_lt a b) ≡ false → a < b
 below a b e = ltb-true a b (not-false (nat_lt a b) e)
 
@@ -111,7 +111,7 @@ number_ranged n least most word = gives_within _ n least most _ (number_within l
 
 -- Bytes
 
--- Where a decoding, its error told as a bad hex word, gives some bytes, the decoding itself gave them.
+-- If a decoding, its error told as a bad hex word, gives some bytes, the decoding itself gave them.
 pub spelled : (result : Result (List ℕ) FromHexError) (bytes : List ℕ) → found_or (result_ok result) BadHex ≡ Ok bytes → result ≡ Ok bytes
 spelled (Ok found) bytes e = let same : found ≡ bytes = cc in rw same refl
 spelled (Err error) bytes e = cc e
@@ -122,7 +122,7 @@ bytes_spelled word some = record {
   holds = λ bytes e. let ok = decode_of-ok word bytes (spelled (decode_of word) bytes e) in let twice : length word ≡ 2 * length bytes = ok.2 in omega arith;
 }
 
--- A word that is taken as so many bytes in hexadecimal digits gives exactly that many.
+-- A word that is taken as this many bytes in hexadecimal digits gives exactly that many.
 pub bytes_counted : (count : ℕ) (word : List ℕ) → Gives (λ bytes. length bytes ≡ count) (hex_of count word)
 bytes_counted count word =
     gives_then _ _ _ (gives_any (hex_word word)) (λ bytes _.

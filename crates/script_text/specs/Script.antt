@@ -25,7 +25,7 @@ header_line line = do
   _ ← fault_if (not (is_header (words_of line))) (whole BadHeader)
   Ok Nothing
 
--- the words of a line, in the part of the script that it stands in
+-- the words of a line, in that part of the script
 abbrev pub words_line : Before → Part → List (List ℕ) → Result Given LineFault
 words_line before part [] = Ok Nothing
 words_line before Declarations (word ∷ words) = declaration_line before word words

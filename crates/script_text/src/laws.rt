@@ -10,7 +10,7 @@ pub fn each_plan_is_whole()
     ensures { EachPlanIsWhole }
 {}
 
-/// A script that is cut after a line feed is still one. Where the whole bytes declare a plan, so do the first `end` of
+/// A script that is cut after a line feed is still one. If the whole bytes declare a plan, so do the first `end` of
 /// them, at least one, the last of which is a line feed.
 pub fn cut_plan(bytes: &[u8], end: usize)
     requires plan { IsOk (script_of bytes.now) }

@@ -97,7 +97,7 @@ fn is_text(line: &[u8]) -> bool
 }
 
 /// Reads the words of a line, what stands between its spaces, into `words` in place of what was there, and says whether
-/// the line is text. Where it isn't, its words may be any. The only error is running out of memory.
+/// the line is text. If it isn't, its words may be any. Returns an error if memory runs out.
 pub fn read_words<'a>(words: &mut Vec<&'a [u8]>, line: &'a [u8]) -> Result<bool, AllocError>
     ensures text { IfOk result (λ text. text ≡ spelled.is_text line.now) }
     ensures words { IfOk result (λ text. IsTrue text → map (λ word. word.now) words.new.items ≡ spelled.words_of line.now) }

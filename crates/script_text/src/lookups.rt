@@ -38,40 +38,40 @@ fn new_among(names: &Names, word: &[u8]) -> Result<Name, Cause>
     Ok(name)
 }
 
-/// A host that isn't declared yet. The error is [`Cause::BadName`] exactly where the word is no name, and else
-/// [`Cause::Repeated`] exactly where a host has that name.
+/// A host that isn't declared yet. The error is [`Cause::BadName`] if the word is no name, and else [`Cause::Repeated`]
+/// if a host has that name.
 pub fn new_host(before: &Reader, word: &[u8]) -> Result<Name, Cause>
     ensures { result ≡ new_name before.now.hosts word.now }
 {
     new_among(before.hosts(), word)
 }
 
-/// A pair that isn't declared yet. The error is [`Cause::BadName`] exactly where the word is no name, and else
-/// [`Cause::Repeated`] exactly where a pair has that name.
+/// A pair that isn't declared yet. The error is [`Cause::BadName`] if the word is no name, and else [`Cause::Repeated`]
+/// if a pair has that name.
 pub fn new_pair(before: &Reader, word: &[u8]) -> Result<Name, Cause>
     ensures { result ≡ new_name (pair_names before.now) word.now }
 {
     new_among(before.pairs().names(), word)
 }
 
-/// A device that isn't declared yet. The error is [`Cause::BadName`] exactly where the word is no name, and else
-/// [`Cause::Repeated`] exactly where a device has that name.
+/// A device that isn't declared yet. The error is [`Cause::BadName`] if the word is no name, and else
+/// [`Cause::Repeated`] if a device has that name.
 pub fn new_device(before: &Reader, word: &[u8]) -> Result<Name, Cause>
     ensures { result ≡ new_name (dev_names before.now) word.now }
 {
     new_among(before.devs().names(), word)
 }
 
-/// A switch that isn't declared yet. The error is [`Cause::BadName`] exactly where the word is no name, and else
-/// [`Cause::Repeated`] exactly where a switch has that name.
+/// A switch that isn't declared yet. The error is [`Cause::BadName`] if the word is no name, and else
+/// [`Cause::Repeated`] if a switch has that name.
 pub fn new_switch(before: &Reader, word: &[u8]) -> Result<Name, Cause>
     ensures { result ≡ new_name (switch_names before.now) word.now }
 {
     new_among(before.switches().names(), word)
 }
 
-/// A host that is declared. The error is [`Cause::BadName`] exactly where the word is no name, and else
-/// [`Cause::UnknownName`] exactly where no host has that name.
+/// A host that is declared. The error is [`Cause::BadName`] if the word is no name, and else [`Cause::UnknownName`] if
+/// no host has that name.
 pub fn read_host(before: &Reader, word: &[u8]) -> Result<Name, Cause>
     ensures { result ≡ host_word before.now word.now }
 {
@@ -82,8 +82,8 @@ pub fn read_host(before: &Reader, word: &[u8]) -> Result<Name, Cause>
     Ok(name)
 }
 
-/// The number of the pair that a word names. The error is [`Cause::BadName`] exactly where the word is no name, and
-/// else [`Cause::UnknownName`] exactly where no pair has that name.
+/// The number of the pair that a word names. The error is [`Cause::BadName`] if the word is no name, and else
+/// [`Cause::UnknownName`] if no pair has that name.
 pub fn read_pair(before: &Reader, word: &[u8]) -> Result<u32, Cause>
     ensures value { result ≡ pair_word before.now word.now }
     ensures declared { IfOk result (λ pair. pair < length before.now.plan.pairs) }
@@ -95,8 +95,8 @@ pub fn read_pair(before: &Reader, word: &[u8]) -> Result<u32, Cause>
     before.pairs().number(word).ok_or(Cause::UnknownName)
 }
 
-/// The number of the device that a word names. The error is [`Cause::BadName`] exactly where the word is no name, and
-/// else [`Cause::UnknownName`] exactly where no device has that name.
+/// The number of the device that a word names. The error is [`Cause::BadName`] if the word is no name, and else
+/// [`Cause::UnknownName`] if no device has that name.
 pub fn read_device(before: &Reader, word: &[u8]) -> Result<u32, Cause>
     ensures value { result ≡ dev_word before.now word.now }
     ensures declared { IfOk result (λ dev. dev < length before.now.plan.devs) }
@@ -107,8 +107,8 @@ pub fn read_device(before: &Reader, word: &[u8]) -> Result<u32, Cause>
     before.devs().number(word).ok_or(Cause::UnknownName)
 }
 
-/// The number of the switch that a word names. The error is [`Cause::BadName`] exactly where the word is no name, and
-/// else [`Cause::UnknownName`] exactly where no switch has that name.
+/// The number of the switch that a word names. The error is [`Cause::BadName`] if the word is no name, and else
+/// [`Cause::UnknownName`] if no switch has that name.
 pub fn read_switch(before: &Reader, word: &[u8]) -> Result<u32, Cause>
     ensures value { result ≡ switch_word before.now word.now }
     ensures declared { IfOk result (λ switch. switch < length before.now.plan.switches) }
@@ -120,7 +120,7 @@ pub fn read_switch(before: &Reader, word: &[u8]) -> Result<u32, Cause>
 }
 
 /// The side of a pair that two words name, the first of which is word `n` of the line, at most 6. The error is that of
-/// [`read_pair`] at word `n`, and else [`Cause::BadName`] at word `n + 1`, exactly where that is neither `A` nor `B`.
+/// [`read_pair`] at word `n`, and else [`Cause::BadName`] at word `n + 1`, if that is neither `A` nor `B`.
 pub fn read_side_name(before: &Reader, n: u32, words: SideWords<'_>) -> Result<SideName, LineFault>
     requires { n ≤ 6 }
     ensures value { result ≡ named_side before.now n words.entry.pair.now words.entry.side.now }
@@ -145,8 +145,8 @@ fn read_queue(before: &Reader, pair: u32, side: Side, word: &[u8]) -> Result<u32
 }
 
 /// The queue of a side of a pair that three words name, the first of which is word `n` of the line, at most 6. An error
-/// of [`read_side_name`] comes first. Else the error is, at word `n + 2`, [`Cause::BadNumber`] exactly where that
-/// spells no number, and else [`Cause::UnknownName`] exactly where the side has no queue of that number.
+/// of [`read_side_name`] comes first. Else the error is, at word `n + 2`, [`Cause::BadNumber`] if that spells no
+/// number, and else [`Cause::UnknownName`] if the side has no queue of that number.
 pub fn read_queue_name(
     before: &Reader,
     n: u32,

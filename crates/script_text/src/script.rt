@@ -44,7 +44,7 @@ fn is_header(words: &[&[u8]]) -> bool
     }
 }
 
-/// Adds what the words of a line give in the part of the script that it stands in.
+/// Adds what the words of a line give in that part of the script.
 #[inline(always)]
 fn words_line(alloc: Global, before: &mut Reader, line: u32, words: &[&[u8]]) -> AddResult
     requires held { Held before.old }
@@ -119,9 +119,8 @@ fn add_line<'a>(
 ///
 /// # Errors
 ///
-/// [`ParseError::OutOfMemory`] only where there is no memory for what the script declares: it says nothing of the
-/// script. Else [`ParseError::Fault`] exactly where the script has a fault: the first line that has one, and that
-/// line's first fault.
+/// [`ParseError::OutOfMemory`] only if there is no memory for what the script declares: it says nothing of the script.
+/// Else [`ParseError::Fault`] if the script has a fault: the first line that has one, and that line's first fault.
 pub fn read_declared(alloc: Global, bytes: &[u8]) -> Result<Reader, ParseError>
     requires { length bytes.now ≤ most_script_bytes }
     ensures { Parses result (rules.declared_by bytes.now) }
@@ -157,8 +156,8 @@ fn add_lines(alloc: Global, before: &mut Reader, bytes: &[u8]) -> Result<(), Par
 ///
 /// # Errors
 ///
-/// [`ParseError::OutOfMemory`] only where there is no memory for what the script declares: it says nothing of the
-/// script. Else [`ParseError::Fault`] exactly where the script has a fault, which is as [`read_declared`] answers it.
+/// [`ParseError::OutOfMemory`] only if there is no memory for what the script declares: it says nothing of the script.
+/// Else [`ParseError::Fault`] if the script has a fault, which is as [`read_declared`] answers it.
 pub fn read_script(alloc: Global, bytes: &[u8]) -> Result<Script, ParseError>
     requires { length bytes.now ≤ most_script_bytes }
     ensures { Parses (result_map plan_in result) (rules.script_of bytes.now) }
@@ -171,8 +170,8 @@ pub fn read_script(alloc: Global, bytes: &[u8]) -> Result<Script, ParseError>
 ///
 /// # Errors
 ///
-/// [`ParseError::OutOfMemory`] only where there is no memory for the plan: it says nothing of the script. Else
-/// [`ParseError::Fault`] exactly where the script has a fault, which is as [`read_declared`] answers it.
+/// [`ParseError::OutOfMemory`] only if there is no memory for the plan: it says nothing of the script. Else
+/// [`ParseError::Fault`] if the script has a fault, which is as [`read_declared`] answers it.
 pub fn parse(alloc: Global, bytes: &[u8]) -> Result<Plan, ParseError>
     requires { length bytes.now ≤ most_script_bytes }
     ensures { Parses result (rules.script_of bytes.now) }

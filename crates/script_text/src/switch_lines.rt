@@ -77,7 +77,7 @@ fn switch_line(alloc: Global, before: &Reader, name: &[u8], devs: &[&[u8]]) -> L
     })
 }
 
-/// Whether a switch may have so many ports.
+/// Whether a switch may have this many ports.
 fn is_ports(ports: usize) -> bool
     ensures { result ≡ rules.is_ports ports }
 {

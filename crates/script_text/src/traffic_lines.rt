@@ -31,7 +31,7 @@ fn may_have_traffic(pair: &PairPlan) -> bool
     !pair.raw && agrees(pair)
 }
 
-/// Whether so many frames of so many bytes each may be sent on a lane.
+/// Whether this many frames of this many bytes each may be sent on a lane.
 fn test_lane(before: &Reader, lane: LaneName, len: u64, count: u64) -> Result<(), LineFault>
     requires declared { lane.pair < length before.now.plan.pairs }
     requires among { lane.queue < (side_plan (pair_plan before.now.plan lane.pair) lane.from).queues }

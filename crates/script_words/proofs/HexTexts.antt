@@ -192,6 +192,6 @@ text_spells word bytes e are =
     let pairs : decode_pairs 0 (str_to_ascii_lowercase word) ≡ Ok bytes = sym (decode_of-even (str_to_ascii_lowercase word) even) ∙ small in
     ap result_ok (decode_of-even word even_word ∙ pairs_again 0 word bytes pairs)
 
--- A word spells bytes exactly where, in small letters, it is their hexadecimal text.
+-- A word spells bytes if and only if, in small letters, it is their hexadecimal text.
 pub hex_texts : BytesAreHex
 hex_texts = λ word bytes. (λ e. spelled_text word bytes e, λ h. text_spells word bytes h.0 h.1)

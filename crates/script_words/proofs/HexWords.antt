@@ -1,4 +1,4 @@
--- Words of so many bytes.
+-- Words of this many bytes.
 use Rattle.std.proofs.Common.{◌≡◌, ℕ, ◌*◌, Bool, true, false, not, ◌==◌, List, length, Result, Ok, Err, refl, sym, ◌∙◌, ap, arith}
 use Rattle.std.proofs.lemmas.Bool.{eqb-true}
 use Rattle.hex.specs.Hex.{decode_of, decode_sized}
@@ -26,7 +26,7 @@ refused_bytes word n e h (Ok bytes) same = at_test (length bytes == n) refl
         let long : length word ≡ 2 * n = omega arith in
         cc (sym h ∙ (decode_sized-twice word n long ∙ same))
 
--- a word that doesn't spell so many bytes
+-- a word that doesn't spell this many bytes
 pub hex_of_refused : (word : List ℕ) (n : ℕ) (e : FromHexError) → decode_sized word n ≡ Err e → hex_of n word ≡ Err BadHex
 unfolding after_bytes
 hex_of_refused word n e h = refused_bytes word n e h (decode_of word) refl

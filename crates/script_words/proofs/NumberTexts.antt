@@ -65,7 +65,7 @@ text_spells n small =
     (and_from (is_plain (decimal n)) (nat_lt (value_from 0 (decimal n)) (2 ^ 32)) (decimal_plain n wide) (lt-ltb (value_from 0 (decimal n)) (2 ^ 32) (omega arith))) in
     cond-true (list_all is_digit (decimal n) && (is_plain (decimal n) && nat_lt (value_from 0 (decimal n)) (2 ^ 32))) (Some (value_from 0 (decimal n))) None test ∙ ap Some value
 
--- A word spells a number exactly where it is the number's decimal text and the number is below 2^32.
+-- A word spells a number if and only if it is the number's decimal text and the number is below 2^32.
 pub number_texts : NumbersAreDecimal
 number_texts = λ word n. (
   λ e. spelled_by word n (list_all is_digit word && (is_plain word && nat_lt (value_from 0 word) (2 ^ 32))) refl e,

@@ -125,7 +125,7 @@ abbrev pub class_words : Before → List (List ℕ) → Result Given LineFault
 class_words before (a ∷ b ∷ c ∷ d ∷ []) = class_line before a b c d
 class_words before words = Err unknown_line
 
--- whether a switch may have so many ports
+-- whether a switch may have this many ports
 abbrev pub is_ports : ℕ → Bool
 is_ports ports = nat_le least_ports ports && nat_le ports most_ports
 

@@ -5,10 +5,10 @@ use Rattle.std.specs.Str.{str_to_ascii_lowercase}
 use Rattle.hex.specs.Hex.{IsBytes, encode_lower}
 use Rattle.script_words.specs.Words.{number_of, bytes_of}
 
--- a word spells a number exactly where it is the number's decimal text, and the number is below 2^32
+-- a word spells a number if and only if it is the number's decimal text, and the number is below 2^32
 abbrev pub NumbersAreDecimal : Type 0
 NumbersAreDecimal = (word : List ℕ) (n : ℕ) → (number_of word ≡ Some n) ↔ ((word ≡ decimal n) × (n < 2 ^ 32))
 
--- a word spells bytes exactly where, in small letters, it is their hexadecimal text
+-- a word spells bytes if and only if, in small letters, it is their hexadecimal text
 abbrev pub BytesAreHex : Type 0
 BytesAreHex = (word bytes : List ℕ) → (bytes_of word ≡ Some bytes) ↔ ((str_to_ascii_lowercase word ≡ encode_lower bytes) × IsBytes bytes)

@@ -24,7 +24,7 @@ pair_step_of Train = λ pair. step.Train pair
 pair_step_of Break = λ pair. step.Break pair
 pair_step_of Drop = λ pair. step.DropDone pair
 
--- the steps of a side with so many windows
+-- the steps of a side with this many windows
 abbrev pub side_steps_with : SideWord → ℕ → ℕ → Side → List Step
 side_steps_with Enable windows pair side = step.Enable pair side ∷ []
 side_steps_with Clean windows pair side = step.Clean pair side ∷ []

@@ -28,7 +28,7 @@ is_little before more =
     nat_le (sum (map frames_in before) + sum (map frames_in more)) most_traffic_frames
     && nat_le (sum (map bytes_in before) + sum (map bytes_in more)) most_traffic_bytes
 
--- frames of so many bytes each on a lane: they have to fit an entry of its ring, and the ring must not be too long.
+-- frames of this many bytes each on a lane: they have to fit an entry of its ring, and the ring must not be too long.
 -- Then the pair has to be one that may have traffic, and no limit may be passed.
 abbrev pub traffic_within : Before → LaneName → ℕ → List Traffic → Result Given LineFault
 traffic_within before lane len more = do

@@ -103,7 +103,7 @@ bytes_of word = result_ok (decode_of word)
 abbrev pub hex_word : List ℕ → Result (List ℕ) Cause
 hex_word word = found_or (bytes_of word) BadHex
 
--- so many bytes
+-- this many bytes
 abbrev pub hex_of : ℕ → List ℕ → Result (List ℕ) Cause
 hex_of count word = do
   bytes ← hex_word word

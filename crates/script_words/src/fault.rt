@@ -53,7 +53,7 @@ pub enum Cause {
 }
 
 impl Cause {
-    /// The word of the cause, as it stands in the answer to a script that is refused.
+    /// The word of the cause, as it is in the answer to a script that is refused.
     pub fn word(self) -> &'static str
         ensures { result.now ≡ cause_text self }
     {
@@ -150,7 +150,7 @@ pub fn unknown_line() -> LineFault
 ///
 /// # Errors
 ///
-/// The fault of the cause at the word, exactly where `given` is a cause.
+/// The fault of the cause at the word, if and only if `given` is a cause.
 #[inline(always)]
 pub fn at<T>(word: u32, given: Result<T, Cause>) -> Result<T, LineFault>
     ensures { result ≡ tests.at word given }
@@ -165,7 +165,7 @@ pub fn at<T>(word: u32, given: Result<T, Cause>) -> Result<T, LineFault>
 ///
 /// # Errors
 ///
-/// The fault of the cause at the word, with the range, exactly where `given` is a cause.
+/// The fault of the cause at the word, with the range, if and only if `given` is a cause.
 #[inline(always)]
 pub fn within<T>(word: u32, range: Range, given: Result<T, Cause>) -> Result<T, LineFault>
     ensures { result ≡ tests.within word range.least range.most given }

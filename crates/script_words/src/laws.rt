@@ -2,13 +2,13 @@
 
 ghost use Rattle.script_words.specs.Laws.{BytesAreHex, NumbersAreDecimal};
 
-/// A word spells a number exactly where it is the number's decimal text, as it is printed, and the number is below
+/// A word spells a number if and only if it is the number's decimal text, as it is printed, and the number is below
 /// 2^32: of each number there is one spelling. No premise.
 pub fn numbers_are_decimal()
     ensures { NumbersAreDecimal }
 {}
 
-/// A word spells bytes exactly where it is their hexadecimal text, two digits a byte, its letters taken as small ones.
+/// A word spells bytes if and only if it is their hexadecimal text, two digits a byte, its letters taken as small ones.
 /// No premise.
 pub fn bytes_are_hex()
     ensures { BytesAreHex }

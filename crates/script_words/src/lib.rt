@@ -1,5 +1,5 @@
-//! The words of a script: how names, sides, numbers, bytes and options are spelled, which steps a first word stands
-//! for, and what one line gives.
+//! The words of a script: how names, sides, numbers, bytes and options are spelled, which steps a first word
+//! represents, and what one line gives.
 #![tactic(auto)]
 
 /// The value that stands beside a word in a table of words and values: `Some` of it, or `None` where the word isn't

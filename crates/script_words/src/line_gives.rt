@@ -39,7 +39,7 @@ pub enum Given {
         lane: LaneName,
         frame: Frame,
     },
-    /// So many frames of the traffic, each of so many bytes.
+    /// This many frames of the traffic, each of this many bytes.
     Flood {
         lane: LaneName,
         count: u32,

@@ -37,8 +37,8 @@ fn new_setting(settings: &[Setting], word: &[u8]) -> Result<Setting, LineFault>
 ///
 /// # Errors
 ///
-/// [`LineError::OutOfMemory`] only when out of memory. Else [`LineError::Fault`] exactly where a word has a fault: that
-/// of the first such word, at its number in the line. Of a word it is the first of these:
+/// [`LineError::OutOfMemory`] if memory runs out. Else [`LineError::Fault`] if a word has a fault: that of the first
+/// such word, at its number in the line. Of a word it is the first of these:
 ///
 /// 1. the cause of [`read_setting`], where it answers one,
 /// 2. [`Cause::Repeated`], where a word before it spells the same option, with whatever number,

@@ -36,7 +36,7 @@ fn split_at_equals(word: &[u8]) -> Option<(&[u8], &[u8])>
     None
 }
 
-/// What a word has after a key; `None` exactly where it doesn't begin with the key.
+/// What a word has after a key; `None` if and only if it doesn't begin with the key.
 pub fn behind_key<'a>(key: &[u8], word: &'a [u8]) -> Option<&'a [u8]>
     ensures { option_copied result ≡ behind key.now word.now }
 {
@@ -86,8 +86,8 @@ fn keyed_setting(key: &[u8], digits: &[u8]) -> Result<Setting, Cause>
 ///
 /// An option without a number (`up`, `strict`, `raw`) has none. Of any other word:
 ///
-/// 1. [`Cause::UnknownWord`] exactly where it has no equals sign, or what stands before the first is no option's key.
-/// 2. Else [`Cause::BadNumber`] exactly where what stands after that sign spells no number.
+/// 1. [`Cause::UnknownWord`] if it has no equals sign, or what stands before the first is no option's key.
+/// 2. Else [`Cause::BadNumber`] if what stands after that sign spells no number.
 pub fn read_setting(word: &[u8]) -> Result<Setting, Cause>
     ensures { result ≡ rules.setting_word word.now }
 {

@@ -143,7 +143,7 @@ impl PairWord {
 }
 
 impl SideWord {
-    /// The steps of the word on a side with so many windows, at most 4.
+    /// The steps of the word on a side with this many windows, at most 4.
     pub fn steps(self, windows: u32, pair: u32, side: Side) -> Macro
         requires { windows ≤ 4 }
         ensures { steps_of result ≡ side_steps_with self windows pair side }

@@ -38,7 +38,7 @@ fn are_name_bytes(bytes: &[u8]) -> bool
 ///
 /// # Errors
 ///
-/// [`Cause::BadName`] exactly where the word is no name, by [`is_name`].
+/// [`Cause::BadName`] if the word is no name, by [`is_name`].
 pub fn read_name(word: &[u8]) -> Result<Name, Cause>
     ensures { result ≡ spelled.name_word word.now }
 {
@@ -53,7 +53,7 @@ pub fn read_name(word: &[u8]) -> Result<Name, Cause>
 ///
 /// # Errors
 ///
-/// [`Cause::BadName`] exactly where the word is neither `A` nor `B`.
+/// [`Cause::BadName`] if the word is neither `A` nor `B`.
 pub fn read_side(word: &[u8]) -> Result<Side, Cause>
     ensures { result ≡ spelled.side_word word.now }
 {
@@ -99,8 +99,8 @@ fn number_of(word: &[u8]) -> Option<u32>
 ///
 /// # Errors
 ///
-/// [`Cause::BadNumber`] exactly where the word isn't decimal digits, at least one, without a leading zero but for zero
-/// itself, or their number isn't below 2^32.
+/// [`Cause::BadNumber`] if the word isn't decimal digits, at least one, without a leading zero but for zero itself, or
+/// their number isn't below 2^32.
 pub fn read_number(word: &[u8]) -> Result<u32, Cause>
     ensures { result ≡ spelled.number_word word.now }
 {
@@ -111,7 +111,7 @@ pub fn read_number(word: &[u8]) -> Result<u32, Cause>
 ///
 /// # Errors
 ///
-/// [`Cause::BadNumber`] exactly where [`read_number`] answers it, or the number is below `least` or above `most`.
+/// [`Cause::BadNumber`] if [`read_number`] answers it, or the number is below `least` or above `most`.
 pub fn read_number_between(least: u32, most: u32, word: &[u8]) -> Result<u32, Cause>
     ensures { result ≡ spelled.number_between least most word.now }
 {
@@ -126,8 +126,7 @@ pub fn read_number_between(least: u32, most: u32, word: &[u8]) -> Result<u32, Ca
 ///
 /// # Errors
 ///
-/// The fault of [`Cause::BadNumber`] at word `n`, with the range, exactly where [`read_number_between`] answers that
-/// cause.
+/// The fault of [`Cause::BadNumber`] at word `n`, with the range, if [`read_number_between`] answers that cause.
 pub fn read_number_in(n: u32, least: u32, most: u32, word: &[u8]) -> Result<u32, LineFault>
     ensures { result ≡ spelled.number_in n least most word.now }
 {
@@ -142,8 +141,8 @@ pub fn read_number_in(n: u32, least: u32, most: u32, word: &[u8]) -> Result<u32,
 ///
 /// # Errors
 ///
-/// [`ReadError::OutOfMemory`] only when out of memory. Else [`ReadError::Fault`] of [`Cause::BadHex`] exactly where the
-/// word isn't pairs of hexadecimal digits.
+/// [`ReadError::OutOfMemory`] if memory runs out. Else [`ReadError::Fault`] of [`Cause::BadHex`] if the word isn't
+/// pairs of hexadecimal digits.
 pub fn read_bytes(alloc: Global, word: &[u8]) -> Result<Items<u8>, ReadError>
     ensures { Reads result (spelled.hex_word word.now) }
 {
@@ -158,8 +157,8 @@ pub fn read_bytes(alloc: Global, word: &[u8]) -> Result<Items<u8>, ReadError>
 ///
 /// # Errors
 ///
-/// [`LineError::OutOfMemory`] only when out of memory. Else [`LineError::Fault`] of [`Cause::BadHex`] at word `n`
-/// exactly where the word isn't pairs of hexadecimal digits.
+/// [`LineError::OutOfMemory`] if memory runs out. Else [`LineError::Fault`] of [`Cause::BadHex`] at word `n` if the
+/// word isn't pairs of hexadecimal digits.
 #[inline(always)]
 pub fn read_bytes_at(alloc: Global, n: u32, word: &[u8]) -> Result<Items<u8>, LineError>
     ensures { ReadsLine result (tests.at n (spelled.hex_word word.now)) }
@@ -171,11 +170,11 @@ pub fn read_bytes_at(alloc: Global, n: u32, word: &[u8]) -> Result<Items<u8>, Li
     }
 }
 
-/// The bytes that a word spells, of which there have to be so many. It takes no memory.
+/// The bytes that a word spells, of which there have to be this many. It takes no memory.
 ///
 /// # Errors
 ///
-/// [`Cause::BadHex`] exactly where the word isn't pairs of hexadecimal digits, or not `N` of them.
+/// [`Cause::BadHex`] if the word isn't pairs of hexadecimal digits, or not `N` of them.
 pub fn read_array<const N: usize>(word: &[u8]) -> Result<[u8; N], Cause>
     ensures { result ≡ spelled.hex_of N word.now }
 {
@@ -190,7 +189,7 @@ pub fn read_array<const N: usize>(word: &[u8]) -> Result<[u8; N], Cause>
 ///
 /// # Errors
 ///
-/// [`Cause::BadHex`] exactly where the word isn't two pairs of hexadecimal digits.
+/// [`Cause::BadHex`] if the word isn't two pairs of hexadecimal digits.
 pub fn read_kind(word: &[u8]) -> Result<u16, Cause>
     ensures { result ≡ spelled.kind_word word.now }
 {

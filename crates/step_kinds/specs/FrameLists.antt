@@ -10,7 +10,7 @@ pub record Frames : Type 0 where
 abbrev pub no_frames : Frames
 no_frames = record { frames = []; spare = 0 }
 
--- room is promised for so many more frames
+-- room is promised for this many more frames
 abbrev pub promised : Frames → ℕ → Frames
 promised list more = record { frames = list.frames; spare = list.spare + more }
 

@@ -44,7 +44,7 @@ impl Frame {
         &self.bytes
     }
 
-    /// A frame with the same bytes. The only error is running out of memory.
+    /// A frame with the same bytes. Returns an error if memory runs out.
     pub fn copy_of(&self, alloc: Global) -> Result<Frame, AllocError>
         ensures { IfOk result (λ copy. copy ≡ self.now) }
     {

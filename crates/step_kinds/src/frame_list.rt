@@ -34,7 +34,7 @@ impl FrameList {
     ///
     /// # Errors
     ///
-    /// [`AllocError`] only when out of memory, and then the list and its promises are as they were.
+    /// [`AllocError`] if memory runs out, and then the list and its promises are as they were.
     pub fn promise(&mut self, more: usize) -> Result<(), AllocError>
         ensures ok { OnOk result (self.new ≡ promised self.old more) }
         ensures err { OnErr result (self.new ≡ self.old) }
@@ -54,7 +54,7 @@ impl FrameList {
         self.spare -= 1;
     }
 
-    /// Takes the first frame out, and `None` exactly where the list is empty. The room of the frame that was taken is
+    /// Takes the first frame out, and `None` if and only if the list is empty. The room of the frame that was taken is
     /// promised again: it serves a later [`FrameList::push`] or [`FrameList::put_back`].
     pub fn take_first(&mut self) -> Option<Frame>
         ensures frame { result ≡ slice_get self.old.frames 0 }

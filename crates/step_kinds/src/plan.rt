@@ -8,7 +8,7 @@ use crate::steps::{Answer, Step};
 /// One side of a pair, as it is declared.
 #[derive(Clone, Copy, Debug, PartialEq, Eq)]
 pub struct SidePlan {
-    /// The version of the transport that the side speaks, 3 to 5. Version 3 stands for a peer that is refused, 4 has
+    /// The version of the transport that the side speaks, 3 to 5. Version 3 represents a peer that is refused, 4 has
     /// headers of 12 bytes, and 5, which a pair speaks where both sides declare it, headers of 16 bytes.
     pub version: u32,
     /// The number of queues, 1 to 16.

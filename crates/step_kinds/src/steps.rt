@@ -19,8 +19,8 @@ pub enum Label {
     Chunk { queue: u32, number: u64, part: u32 },
     /// The length field of an entry's header: the bytes of the payload. Relaxed.
     Len { queue: u32, number: u64 },
-    /// The version field of an entry's header: the entry's number modulo 2^32. Where the pair speaks version 5 the
-    /// write has the field `left` before it, how many entries of the frame follow: 8 bytes in place of 4. Relaxed.
+    /// The version field of an entry's header: the entry's number modulo 2^32. If the pair speaks version 5 the write
+    /// has the field `left` before it, how many entries of the frame follow: 8 bytes in place of 4. Relaxed.
     Ver { queue: u32, number: u64 },
     /// The flags field of a frame's header, with the bit DONE: the number 1. Strict.
     Flag { queue: u32, number: u64 },
@@ -389,13 +389,13 @@ pub enum Answer {
     PadValue { value: u32 },
     /// How many writes are in flight, and the label of the one at the place: none where no more than `place` are.
     QueueShown { count: u64, label: Option<Label> },
-    /// The frame that was to be relayed has so many bytes, less than an Ethernet header, and was dropped.
+    /// The frame that was to be relayed has this many bytes, less than an Ethernet header, and was dropped.
     Short { len: u32 },
     /// The frame's destination is on the port that it arrived on, and the frame was dropped.
     Filtered,
     /// The frame's destination is on this port of the switch, and the frame waits there.
     To { port: u32 },
-    /// The frame waits on all other ports of the switch, so many: its destination isn't known, or is a group.
+    /// The frame waits on all other ports of the switch, this many: its destination isn't known, or is a group.
     Flood { count: u32 },
 }
 

@@ -37,7 +37,7 @@ pub enum Macro {
         repeated: Repeated,
         count: u32,
     },
-    /// One step, so many times.
+    /// One step, this many times.
     Again {
         repeated: Repeated,
         count: u32,

@@ -19,7 +19,7 @@ pub enum Stretch {
         /// The step, which may have many numbers or bytes.
         step: Box<Step>,
     },
-    /// The same step, so many times.
+    /// The same step, this many times.
     Again {
         /// The line's number.
         line: u32,
@@ -28,7 +28,7 @@ pub enum Stretch {
         /// How often it stands here.
         count: u32,
     },
-    /// A frame is received: a look, so many copies, a clear and an ack.
+    /// A frame is received: a look, this many copies, a clear and an ack.
     Received {
         /// The line's number.
         line: u32,
@@ -69,8 +69,8 @@ impl StepList {
         &self.stretches
     }
 
-    /// Adds a step of line `line`, in a box: one that a line may repeat is better pushed as a [`Macro`]. The only error
-    /// is running out of memory, and then nothing is added.
+    /// Adds a step of line `line`, in a box: one that a line may repeat is better pushed as a [`Macro`]. Returns an
+    /// error if memory runs out, and then nothing is added.
     pub fn push_step(&mut self, line: u32, step: Step) -> Result<(), AllocError>
         ensures ok { OnOk result (self.new ≡ self.old ++ lines_with line (step ∷ [])) }
         ensures err { OnErr result (self.new ≡ self.old) }
@@ -79,7 +79,7 @@ impl StepList {
         self.push_stretch(one)
     }
 
-    /// Adds the steps of line `line`. The only error is running out of memory, and then nothing is added.
+    /// Adds the steps of line `line`. Returns an error if memory runs out, and then nothing is added.
     #[inline(always)]
     pub fn push(&mut self, line: u32, more: Macro) -> Result<(), AllocError>
         ensures ok { OnOk result (self.new ≡ self.old ++ lines_with line (steps_of more)) }
@@ -138,7 +138,7 @@ impl StepList {
         self.stretches.clear();
     }
 
-    /// All steps, one by one. The only error is running out of memory.
+    /// All steps, one by one. Returns an error if memory runs out.
     pub fn into_items(self, alloc: Global) -> Result<Items<Line>, AllocError>
         ensures { IfOk result (λ lines. lines ≡ self) }
     {
@@ -161,7 +161,7 @@ impl Model for StepList {
     ghost view = { λ list. all_lines list.stretches.items };
 }
 
-// A step of a line, so many times.
+// A step of a line, this many times.
 fn again(line: u32, repeated: Repeated, count: u32) -> Stretch
     ensures { lines_in result ≡ lines_with line (replicate count (step_again repeated)) }
 {
@@ -206,7 +206,7 @@ fn push_lines(lines: &mut Vec<Line>, stretch: Stretch) -> Result<(), AllocError>
     }
 }
 
-/// Adds a step of a line so many times.
+/// Adds a step of a line this many times.
 #[tactic(auto, using(crate::proofs::Repeats::repeats_more))]
 fn push_again(
     lines: &mut Vec<Line>,

@@ -43,7 +43,7 @@ first_dropped n xs x rest e =
     let k : n ≡ n + 0 = omega arith in
     ap (slice_get xs) k ∙ (sym (get_dropped n xs 0) ∙ ap (λ ys. slice_get ys 0) e)
 
--- Where a list without its first items is an item and a rest, dropping one item more leaves that rest.
+-- If a list without its first items is an item and a rest, dropping one item more leaves that rest.
 pub rest_dropped : {X : Type 0} (n : ℕ) (xs : List X) (x : X) (rest : List X) → drop n xs ≡ x ∷ rest → drop (n + 1) xs ≡ rest
 rest_dropped zero xs x rest e = ap (λ ys. drop 1 ys) e
 rest_dropped (suc n) [] x rest e = cc

@@ -14,12 +14,12 @@ use Rattle.stream_model.specs.declared.TakeAnswer.TheVariants.{Start, Kept, Old,
 use Rattle.stream_laws.proofs.Lists.{first_dropped, get_dropped, rest_dropped, take_next}
 use Rattle.stream_laws.proofs.Numbers.{number_in-number_frame}
 
--- where a receiver stands that got so many frames of a session that starts at a number
+-- where a receiver stands that got this many frames of a session that starts at a number
 abbrev pub session_of : ℕ → ℕ → Session
 session_of start zero = Fresh
 session_of start (suc got) = At (start + got)
 
--- a receiver keeps the first items, and got so many frames of a session that starts at one of them
+-- a receiver keeps the first items, and got this many frames of a session that starts at one of them
 pub record Stands (all : List (List ℕ)) (start got : ℕ) (items : List (List ℕ)) (session : Session) : Type 0 where
   pub kept : items ≡ take (length items) all
   pub within : start ≤ length items

@@ -216,7 +216,7 @@ last_of items w held (Some place) e some =
     ap (slice_get w.forward.given) less ∙ (ap (λ (xs : List (List ℕ)). slice_get xs place.given) held.given ∙ get_front w.sender.place.given frames place.given (omega (arith, one))) in
     ap (λ (xs : List (List ℕ)). slice_get (session_frames xs w.sender.start) place.given) held.all ∙ sym last
 
--- Where a frame can be given back, it is the last one that was given to the forward direction.
+-- If a frame can be given back, it is the last one that was given to the forward direction.
 pub last_after : (items : List (List ℕ)) (events : List StreamEvent) → CanSend items → can_give_back (world_after items events) ≡ true
     → last_given (world_after items events).sender ≡ last_frame (world_after items events).forward
 last_after items events few can =

@@ -201,7 +201,7 @@ ack_held items w held = record {
   acks = All-push (SaysAtMost (length w.receiver.items)) w.back.given (number_frame (length w.receiver.items)) held.acks (length w.receiver.items, omega arith, refl);
 }
 
--- CarryAck: the number that comes to the sender
+-- CarryAck: the number that reaches the sender
 pub ack_says : (items : List (List ℕ)) (w : World) → IsHeld items w → (frame : List ℕ) → first_waiting w.back ≡ Some frame → SaysAtMost (length w.receiver.items) frame
 ack_says items w held frame e =
     let within = slice_get_within w.back.given w.back.carried frame e in

@@ -15,7 +15,7 @@ pub fn no_answer_is_bad()
     ensures { NoAnswerIsBad }
 {}
 
-/// Where since the last Lose and the last GiveBack `next_frame` answered None, and every forward frame was carried, the
+/// If since the last Lose and the last GiveBack `next_frame` answered None, and every forward frame was carried, the
 /// receiver's items are all items. Premise: few enough items.
 pub fn all_is_brought()
     ensures { AllIsBrought }
@@ -32,7 +32,7 @@ pub fn back_is_ungiven()
     ensures { BackIsUngiven }
 {}
 
-/// Where a sender has no next frame, it gave all frames of its session. No premise.
+/// If a sender has no next frame, it gave all frames of its session. No premise.
 pub fn none_is_all()
     ensures { NoneIsAll }
 {}

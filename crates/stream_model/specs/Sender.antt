@@ -6,7 +6,7 @@ use Rattle.stream_model.specs.declared.Place.{Place}
 use Rattle.stream_model.specs.declared.AckAnswer.{AckAnswer}
 use Rattle.stream_model.specs.declared.AckAnswer.TheVariants.{Newer, Old, Bad}
 
--- All items, how many were acknowledged, the number at which this session starts, and how far the sender is. Where its
+-- All items, how many were acknowledged, the number at which this session starts, and how far the sender is. If its
 -- last change was that it gave a frame, `before` is how far it was before. A frame can be given back exactly in that
 -- case.
 pub record Sender : Type 0 where

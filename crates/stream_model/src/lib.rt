@@ -60,10 +60,10 @@ pub enum Session {
 /// What can happen in a world of two ends.
 #[derive(Clone, Copy, Debug, PartialEq, Eq)]
 pub enum StreamEvent {
-    /// The sender is asked for its next frame. Where it has one, the frame sets out.
+    /// The sender is asked for its next frame. If it has one, the frame sets out.
     Next,
-    /// The frame that set out last goes back to the sender. This can be only where the sender didn't change since, and
-    /// the frame wasn't carried.
+    /// The frame that set out last goes back to the sender. This can be only if the sender didn't change since, and the
+    /// frame wasn't carried.
     GiveBack,
     /// The first frame that is on its way is carried to the receiver.
     Carry,

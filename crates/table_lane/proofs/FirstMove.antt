@@ -22,7 +22,7 @@ first_is : (moves : List MoveAnswer) (seen : MovePart) (answer : MoveAnswer) (af
 first_is [] seen answer after some makes = absurd (omega arith)
 first_is (move ∷ moves) seen answer after some makes = let made = makes move refl in (made, ap (λ (p : MovePart). p.posted) made.1 ∙ keeps_load seen move)
 
--- Where the choice is the load and the header loaded isn't new, the mover makes its first open move, if there is one.
+-- If the choice is the load and the header loaded isn't new, the mover makes its first open move, if there is one.
 pub makes_first : (before seen after : MovePart) (found choice : ℕ) (answer : MoveAnswer) → seen ≡ posted_loaded before found → eqb found (header_of (taken before)) ≡ false
     → length (open_moves before) ≤ choice % (length (open_moves before) + 1) → 0 < length (open_moves before) → ((move : MoveAnswer) → slice_get (open_moves seen) 0 ≡ Some move → Makes seen move answer after)
     → Moves before choice answer after

@@ -26,7 +26,7 @@ one_or_none : (claims : Bool) (n : ℕ) → n ≤ claimed_by n claims
 one_or_none true n = omega arith
 one_or_none false n = omega arith
 
--- Where a table shows a lane, the counts of its entries follow one another, from those given back to those claimed.
+-- If a table shows a lane, the counts of its entries follow one another, from those given back to those claimed.
 pub in_order : (N : ℕ) (m : Moment) (slots : Slots) → ShowsLane N m slots → InOrder N m
 in_order N m slots h =
     let law = h.law.2 in

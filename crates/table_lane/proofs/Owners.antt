@@ -44,7 +44,7 @@ senders true n sent low = elim (cases_eq n sent) [
 ]
 senders false n sent low = inr (refl, omega arith)
 
--- Where a table shows a lane, each slot is at home or out as the slot's owner in that lane says.
+-- If a table shows a lane, each slot is at home or out as the slot's owner in that lane says.
 pub owners_have_slots : OwnersHaveSlots
 owners_have_slots N m slots h n from to =
     let o = in_order N m slots h in

@@ -17,7 +17,7 @@ position_further N n position more further at is below = sym (mod-eq_of_lt below
 pub position_round : (N n position more further : ℕ) → position ≡ n % N → further + N ≡ position + more → further < N → further ≡ (n + more) % N
 position_round N n position more further at is below = sym (mod-eq_of_lt below) ∙ sym (add-mod_right further N) ∙ ap (λ k. k % N) is ∙ ap (λ k. (k + more) % N) at ∙ mod-add-mod n N more
 
--- The entry so many after the last one that was given back: its number, and then it is the last one.
+-- The entry this many after the last one that was given back: its number, and then it is the last one.
 pub number_ahead : (N freed last position ahead : ℕ) → 2 ≤ N → last ≡ tail_of N freed → position < N → (last + ahead ≡ position) ⊎ (last + ahead ≡ position + N) → 0 < ahead → ahead < N
     → (number_at N freed position ≡ freed + ahead - 1) × (position ≡ tail_of N (freed + ahead))
 number_ahead N freed last position ahead two tail below is some few =

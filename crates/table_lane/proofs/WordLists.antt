@@ -113,7 +113,7 @@ zeros_spaced n = replicate-append-replicate n spacing 0
 abbrev pub zero_words : ℕ → Words
 zero_words N = record { posted = replicate N 0; headers = replicate N 0; flags = replicate N 0; index_out = 0; index = 0; link = 0 }
 
--- So many zeros as a table has words are words of a table, all 0.
+-- This many zeros as a table has words are words of a table, all 0.
 pub zeros_lie : (N : ℕ) → replicate (words_in N) 0 ≡ words_of (zero_words N)
 zeros_lie N =
     let area : ℕ = N + spacing in

@@ -1,5 +1,5 @@
--- Where the slots of a ring are, and what is in them. A slot is at home or out with a seat; at home it is empty or
--- has a frame.
+-- If the slots of a ring are, and what is in them. A slot is at home or out with a seat; at home it is empty or has a
+-- frame.
 use Rattle.std.specs.Prelude.{◌≡◌, ℕ, ◌+◌, ◌%◌, ◌<◌, ◌≤◌, List, [], length, slice_index_or, Option, Some, None, if◌then◌else◌, nat_lt}
 use mathlib.Core.Option.{some, none}
 use mathlib.Core.Option as home

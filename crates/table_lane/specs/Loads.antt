@@ -1,5 +1,5 @@
 -- Steps on a table that are no steps of its lane: loads that move no slot, and seats that are split and joined. And a
--- cut stays, and is seen only where it was made.
+-- cut stays, and is seen only if it was made.
 use Rattle.std.specs.Prelude.{◌≡◌, ◌≢◌, ℕ, true, [], ◌∷◌, ◌++◌, slice_set}
 use mathlib.Core.Option.{some}
 use lib.ListN.{get_elem?}
@@ -22,7 +22,7 @@ pub record StillShown (N : ℕ) (m : Moment) (slots : Slots) (found : ℕ) : Typ
 abbrev pub LoadsAreNoSteps : Type 0
 LoadsAreNoSteps = (N : ℕ) (m : Moment) (slots : Slots) (found : ℕ) → ShowsLane N m slots → StillShown N m slots found
 
--- the sender keeps a word that says cut only where the link word says so, and the link was cut
+-- the sender keeps a word that says cut only if the link word says so, and the link was cut
 abbrev pub SeenCutsAreMade : Type 0
 SeenCutsAreMade = (N : ℕ) (m : Moment) (slots : Slots) → ShowsLane N m slots → m.send.link ≡ cut_word → (m.cut.cut ≡ true) × (m.words.link ≡ cut_word)
 

@@ -67,8 +67,8 @@ stores_header word before found after =
 abbrev pub stores_flag : Tells
 stores_flag before found after = after ≡ (with_move before.0 (flag_stored (the_move before.0)), rest before.1)
 
--- Where the flag is up, the slot of the next entry goes to the receiver. Who has the mover's part too knows that it is
--- up where the mover has stored it. Who has the sender's part too knows that what was received is how what was sent
+-- If the flag is up, the slot of the next entry goes to the receiver. Who has the mover's part too knows that it is up
+-- where the mover has stored it. Who has the sender's part too knows that what was received is how what was sent
 -- begins.
 abbrev pub sees_flag : Tells
 sees_flag before found after =

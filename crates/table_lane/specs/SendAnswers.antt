@@ -6,7 +6,7 @@ use Rattle.table_lane.specs.Knowledge.{link_loaded, index_loaded, head, free_by,
 use Rattle.table_lane.specs.declared.send.SendAnswer.{SendAnswer}
 use Rattle.table_lane.specs.declared.send.SendAnswer.TheVariants.{Sent, NoRoom, Cut}
 
--- by the link word and the index word that this call loads: the index word only where the link isn't cut
+-- by the link word and the index word that this call loads: the index word only if the link isn't cut
 abbrev pub send_answer : SendPart → List ℕ → ℕ → ℕ → SendAnswer
 send_answer part frame link index =
     if link == cut_word then Cut frame

@@ -106,7 +106,7 @@ pub record Shows (N : ℕ) (words : Words) (lane : Lane) (sent : List Bytes) (cl
   pub ring : RingStands lane.ring words.headers words.flags
   pub index : IndexStands N words.index_out words.index lane.acked freed loaded
   pub link : words.link ≡ (if cut then cut_word else 0)
-  -- the sender has seen a cut only where one was made
+  -- the sender has seen a cut only if one was made
   pub seen_cut : seen ≡ cut_word → cut ≡ true
   pub holding : HeldStand sent flagged held stored
   pub receiving : GotStands sent got hand phase

@@ -8,7 +8,7 @@ use Rattle.table_lane.specs.Plays.{Tells}
 use Rattle.table_lane.specs.Rule.{Content}
 use Rattle.table_lane.specs.Words.{words_in}
 
--- a lane's table of N entries: so many words and slots, and N for its key
+-- a lane's table of N entries: this many words and slots, and N for its key
 pub record IsTableOf (N : ℕ) (id : TableId) (about : ℕ) : Type 0 where
   pub words : id.words ≡ words_in N
   pub slots : id.slots ≡ N

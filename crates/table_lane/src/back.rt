@@ -12,7 +12,7 @@ use std::marker::Model;
 
 /// The end that brings indices back to the sender. It never waits and takes no memory.
 ///
-/// A contract sees which table it stands at, and what it knows: how many entries were given back, and its loads.
+/// A contract sees its table, and what it knows: how many entries were given back, and its loads.
 #[derive(Drop)]
 pub struct BackEnd {
     pub(crate) at: Standing,
@@ -23,7 +23,7 @@ pub struct BackEnd {
 
 /// The end that cuts the link.
 ///
-/// A contract sees which table it stands at, and whether the link was cut.
+/// A contract sees its table, and whether the link was cut.
 #[derive(Drop)]
 pub struct CutEnd {
     pub(crate) at: Standing,

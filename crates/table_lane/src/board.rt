@@ -65,7 +65,7 @@ pub(crate) fn position_of(entries: u64, n: u64) -> u64
     n % entries
 }
 
-/// The position of the entry that comes so many entries, fewer than the ring has, after one at this position.
+/// The position of the entry that comes this many entries, fewer than the ring has, after one at this position.
 pub(crate) fn position_after(entries: u64, position: u64, more: u64) -> u64
     requires { (position < entries) × (more < entries) × (entries ≤ most_traffic_entries) }
     ensures { (n : ℕ) → position ≡ n % entries → result ≡ (n + more) % entries }

@@ -47,7 +47,7 @@ fn new_table(alloc: Global, entries: u64) -> Result<(LaneTable, LaneSeat), Alloc
     LaneTable::vacant(alloc, &words, entries as usize, &entries)
 }
 
-// An empty list with room for so many frames.
+// An empty list with room for this many frames.
 fn room_for(alloc: Global, entries: u64) -> Result<FrameList, AllocError>
     requires { entries ≤ most_traffic_entries }
     ensures { IfOk result (λ list. (list.frames ≡ []) × (list.spare ≡ entries)) }
@@ -86,7 +86,7 @@ fn split_off(board: &Board, send: &mut LaneSeat) -> (LaneSeat, LaneSeat, LaneSea
 }
 
 /// Makes a lane with a ring of `entries` entries, from 2 to 65,535, of which one always stays free. Its five ends may
-/// go to any threads. The only error is running out of memory; no other call of the ends takes any.
+/// go to any threads. Returns an error if memory runs out; no other call of the ends takes any.
 pub fn make(
     alloc: Global,
     entries: u32,

@@ -127,8 +127,7 @@ fn join_all(
 
 /// Ends a lane: what the mover holds is moved, the seats become one, and what is left in the ring is moved and received
 /// with it. The ends are those of one [`make`](crate::make). What was sent is what was received before this call,
-/// followed by what is left. Where the sender's last load of the link word showed a cut, one was made. It takes no
-/// memory.
+/// followed by what is left. If the sender's last load of the link word showed a cut, one was made. It takes no memory.
 pub fn finish(
     send: SendEnd,
     mut mover: MoveEnd,

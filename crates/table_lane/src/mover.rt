@@ -13,7 +13,7 @@ use std::marker::Model;
 /// The end that moves frames: it takes them, stores their headers in any order, and their flags in order, each after
 /// its header. It never waits and takes no memory.
 ///
-/// A contract sees which table it stands at, and what it knows: the entries that it holds, and its loads.
+/// A contract sees its table, and what it knows: the entries that it holds, and its loads.
 #[derive(Drop)]
 pub struct MoveEnd {
     pub(crate) at: Standing,
@@ -158,8 +158,8 @@ impl MoveEnd {
 
     /// Makes one move. The first open moves are the header of each held entry that waits for it, by rising number. The
     /// last one is the flag of the first held entry, where its header is stored. Of these and a load of the next posted
-    /// header, the one whose number is `choice` modulo their count is made. Where that load shows a new header, the
-    /// entry is taken; else the first open move is made, and where there is none the answer is `Idle`.
+    /// header, the one whose number is `choice` modulo their count is made. If that load shows a new header, the entry
+    /// is taken; else the first open move is made, and where there is none the answer is `Idle`.
     pub fn step(&mut self, choice: u64) -> MoveAnswer
         ensures lane { self.new.lane ≡ self.old.lane }
         ensures moves { Moves self.old.part choice result self.new.part }

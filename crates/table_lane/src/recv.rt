@@ -13,7 +13,7 @@ use step_kinds::{Frame, FrameList};
 
 /// The end that receives frames. It never waits and takes no memory.
 ///
-/// A contract sees which table it stands at, and what it knows: the frames that were received, and its loads.
+/// A contract sees its table, and what it knows: the frames that were received, and its loads.
 #[derive(Drop)]
 pub struct RecvEnd {
     pub(crate) at: Standing,

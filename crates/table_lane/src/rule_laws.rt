@@ -11,9 +11,9 @@ pub fn slots_are_with_their_owners()
     ensures { OwnersHaveSlots }
 {}
 
-/// Each step of the sender on the table is its steps of the lane, which the table then shows. Where the slot of the
-/// next entry goes to the sender, these are none. Where its posted header is stored, the entry is begun and all its
-/// writes are posted.
+/// Each step of the sender on the table is its steps of the lane, which the table then shows. If the slot of the next
+/// entry goes to the sender, these are none. If its posted header is stored, the entry is begun and all its writes are
+/// posted.
 ///
 /// The slot goes to a sender that has none, where the index word shows room. A header is stored by a sender that has a
 /// slot, for a frame of at most 65,536 bytes. Before it fewer than 2^62 frames were sent, and each position has its

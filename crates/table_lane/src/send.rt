@@ -12,7 +12,7 @@ use step_kinds::Frame;
 
 /// The end that sends frames. It never waits and takes no memory.
 ///
-/// A contract sees which table it stands at, and what it knows: the frames that were sent, and its loads.
+/// A contract sees its table, and what it knows: the frames that were sent, and its loads.
 #[derive(Drop)]
 pub struct SendEnd {
     pub(crate) at: Standing,

@@ -106,7 +106,7 @@ impl Gate for Meeting {
     }
 }
 
-// Whether status 0 came with this text and so many proofs.
+// Whether status 0 came with this text and this many proofs.
 fn is_answer(ended: &Ended, sink: &MemorySink, text: &str, proofs: usize) -> bool {
     ended.status == 0 && sink.held() == text.as_bytes() && ended.proofs.len() == proofs
 }

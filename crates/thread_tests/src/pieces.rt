@@ -76,7 +76,7 @@ struct Counts {
     written: Vec<u8>,
 }
 
-// What words over the script come to, where the source gives and the sink takes at most so many bytes a call. It may
+// What words over the script come to, where the source gives and the sink takes at most this many bytes a call. It may
 // be out of memory.
 fn counts_of<R: Threads + Wait + Sync>(
     rt: &R,
@@ -106,7 +106,7 @@ fn counts_of<R: Threads + Wait + Sync>(
     })
 }
 
-// Whether the script is read in as many pieces of so many bytes as it has, and then its end once. Its text has to be
+// Whether the script is read in as many pieces of this many bytes as it has, and then its end once. Its text has to be
 // written in as many as it has. It may be out of memory.
 fn is_taken_in<R: Threads + Wait + Sync>(
     rt: &R,

@@ -30,7 +30,7 @@ end
 const SENT_FIRST: &str = "lane p A 0 1 accepted 2 ";
 
 /// A gate that holds the worker that sends until the one that cuts came. It may hold the latter until the sender, which
-/// sends two frames, comes to its third turn.
+/// sends two frames, reaches its third turn.
 #[derive(Drop)]
 struct Order {
     cutter_came: AtomicBool,
@@ -48,7 +48,7 @@ impl Order {
     }
 }
 
-// Holds a worker until another came, and so many reads longer.
+// Holds a worker until another came, and this many reads longer.
 fn hold(came: &AtomicBool, more: u32) {
     let mut more = more;
     for read in 0..READS {

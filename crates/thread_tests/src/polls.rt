@@ -17,7 +17,7 @@ traffic
 frame p A 0 61
 ";
 
-/// So often each is tried. Where the machine is busy a worker waits for others, so the fewest turns count.
+/// So often each is tried. If the machine is busy a worker waits for others, so the fewest turns count.
 const SAMPLES: u32 = 100;
 
 /// A gate that counts the turns that it is told.

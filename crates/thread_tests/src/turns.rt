@@ -54,7 +54,7 @@ impl Turns {
         self.begun.load(Ordering::SeqCst)
     }
 
-    // Keeps a turn, and answers whether it begins a session or is the one after the last.
+    // Keeps a turn, and returns whether it begins a session or is the one after the last.
     fn keeps(&self, turn: u64) -> bool {
         let next = self.next.load(Ordering::SeqCst);
         self.next.store(turn.wrapping_add(1), Ordering::SeqCst);
@@ -73,7 +73,7 @@ struct Recorder {
 }
 
 impl Recorder {
-    // Of so many workers, before any turn. It may be out of memory.
+    // Of this many workers, before any turn. It may be out of memory.
     fn new(alloc: Global, workers: usize) -> Result<Recorder, AllocError> {
         let mut turns = Vec::new(alloc);
         for _ in 0..workers {
@@ -115,7 +115,7 @@ impl Recorder {
         }
     }
 
-    // Whether no turn was wrong, and each worker began so many sessions.
+    // Whether no turn was wrong, and each worker began this many sessions.
     fn has_kept(&self, sessions: &[u64]) -> bool {
         !self.is_wrong.load(Ordering::SeqCst)
             && self.turns.len() == sessions.len()

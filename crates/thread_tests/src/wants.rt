@@ -7,7 +7,7 @@ use cluster_run::rounds::{RoundWork, finished};
 use std::alloc::{AllocError, Global};
 use std::test::Fail;
 
-/// After so many rounds a work is over.
+/// After this many rounds a work is over.
 const ROUNDS: u32 = 4;
 
 /// A work that counts its rounds.

@@ -69,7 +69,7 @@ module _ (n : ℕ) where
   -- What a change keeps
 
   module _ (side : Side) where
-    -- so many of this number landed and were dropped, and it stands once in all where it was posted
+    -- this many of this number landed and were dropped, and it stands once in all where it was posted
     abbrev Counts : ℕ → ℕ → PairWrites → Type 0
     Counts landed dropped writes = landed + (dropped + how_often n (numbers_in (at_side writes.sides side).flight)) ≡ below (at_side writes.sides side).posted
 

@@ -43,7 +43,7 @@ unchanged_writes pairs writes step answer refused =
     let k = subject_of step in
     ap (slice_set writes k) (unchanged_pair (slice_index_or pairs k no_pair) (pair_in writes k) step answer refused) ∙ set_same writes k (pair_start no_pair)
 
--- so many lines of it leave the numbers as they were
+-- this many lines of it leave the numbers as they were
 pub unchanged_by_lines : (traced : Traced) (answered : AnsweredStep) (count : ℕ) → is_made answered.made.answer ≡ false →
     (fold with_line traced (replicate count answered)).writes ≡ traced.writes
 unchanged_by_lines traced answered zero refused = refl
@@ -74,7 +74,7 @@ line_more traced answered count text refused is =
     ∙ ap (λ (writes : List PairWrites). so_far.text ++ step_line so_far.plan writes answered.step answered.made) (sym (unchanged_by_lines traced answered count refused))
     ∙ ap (λ (all : Traced). all.text) (sym (fold_more with_line traced count answered))
 
--- what is kept after so many lines, by its parts
+-- what is kept after this many lines, by its parts
 pub traced_is : (traced : Traced) (answered : AnsweredStep) (count : ℕ) (plan : Plan) (writes : List PairWrites) (text : List ℕ) →
     is_made answered.made.answer ≡ false → plan ≡ traced.plan → writes ≡ traced.writes → text ≡ (fold with_line traced (replicate count answered)).text →
     record { plan = plan; writes = writes; text = text } ≡ fold with_line traced (replicate count answered)

@@ -1,5 +1,4 @@
--- The head of a trace: its version, and what each pair of the plan comes to once its options and their defaults are
--- known.
+-- The head of a trace: its version, and each pair of the plan once its options and their defaults are known.
 use Rattle.std.specs.Prelude.{ℕ, ◌==◌, List, [], ◌++◌, codes, slice_index_or, if◌then◌else◌}
 use Rattle.std.specs.List.{flat_map, range_with_len}
 use Rattle.step_kinds.specs.declared.names.Side.{Side}

@@ -8,7 +8,7 @@ use report_text::append::push_word;
 use std::alloc::AllocError;
 use step_kinds::{Answer, ShapeEnd};
 
-/// Adds an answer as an object. The only error is running out of memory.
+/// Adds an answer as an object. Returns an error if memory runs out.
 pub fn push_answer(text: &mut Vec<u8>, answer: &Answer) -> Result<(), AllocError>
     ensures { OnOk result (text.new.items ≡ text.old.items ++ answer_object answer.now) }
 {

@@ -10,7 +10,7 @@ use report_text::append::push_word;
 use std::alloc::AllocError;
 use step_kinds::{Counters, DevPlan, LaneCount, LaneName, PairPlan, Plan};
 
-/// Adds the first line of a trace, with the version of its form. The only error is running out of memory.
+/// Adds the first line of a trace, with the version of its form. Returns an error if memory runs out.
 pub fn push_first_line(text: &mut Vec<u8>) -> Result<(), AllocError>
     ensures { OnOk result (text.new.items ≡ text.old.items ++ first_line) }
 {
@@ -19,7 +19,7 @@ pub fn push_first_line(text: &mut Vec<u8>) -> Result<(), AllocError>
 
 /// Adds what follows the steps. First comes a line for each lane and session where a frame was accepted or delivered.
 /// Then come a line for each device of the plan with its counters, as far as both lists go, and the line of the end.
-/// The only error is running out of memory, and then some part of the text may have been added.
+/// Returns an error if memory runs out, and then some part of the text may have been added.
 pub fn push_ending(
     text: &mut Vec<u8>,
     plan: &Plan,

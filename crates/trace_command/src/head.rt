@@ -17,7 +17,7 @@ use std::alloc::AllocError;
 use step_kinds::{PairPlan, Side};
 
 /// Adds the head of a trace: the line with its version, and a line for each pair. Each pair is one that a script can
-/// declare. The only error is out of memory.
+/// declare. Returns an error if memory runs out.
 pub fn push_head(text: &mut Vec<u8>, pairs: &[PairPlan]) -> Result<(), AllocError>
     requires { All IsPair pairs.now }
     ensures { OnOk result (text.new.items ≡ text.old.items ++ head pairs.now) }
@@ -86,7 +86,7 @@ fn push_side(text: &mut Vec<u8>, pair: &PairPlan, side: Side) -> Result<(), Allo
     push_word(text, "]}")
 }
 
-// Adds the rings that a side sends to on so many queues.
+// Adds the rings that a side sends to on this many queues.
 fn push_rings(
     text: &mut Vec<u8>,
     pair: &PairPlan,

@@ -16,8 +16,8 @@ use std::alloc::AllocError;
 use step_kinds::{Answer, LineAnswer, Plan, Side, Step};
 
 /// Adds the line of a step: its line in the script, the step, its answer, and whether it was made. Then comes what it
-/// changes of the link or of the writes in flight. `writes` are those before the step. The only error is running out of
-/// memory, and then some part of the line may have been added.
+/// changes of the link or of the writes in flight. `writes` are those before the step. Returns an error if memory runs
+/// out, and then some part of the line may have been added.
 pub fn push_step_line(
     text: &mut Vec<u8>,
     plan: &Plan,

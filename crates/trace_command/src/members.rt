@@ -15,7 +15,7 @@ use step_kinds::{Label, NamedNumber, NumberName, Numbers, Shape};
 // Numbers below are numbers in a trace.
 const EXACT_NUMBERS: u64 = 1 << 53;
 
-/// Adds a number. The only error is running out of memory.
+/// Adds a number. Returns an error if memory runs out.
 pub fn push_number(text: &mut Vec<u8>, number: u64) -> Result<(), AllocError>
     ensures { OnOk result (text.new.items ≡ text.old.items ++ decimal number) }
 {
@@ -27,7 +27,7 @@ pub fn push_number(text: &mut Vec<u8>, number: u64) -> Result<(), AllocError>
 ///
 /// # Errors
 ///
-/// [`AllocError`] only when out of memory.
+/// [`AllocError`] if memory runs out.
 #[tactic(auto, unfolding(crate::specs::Words::number_member))]
 pub fn push_number_member(text: &mut Vec<u8>, name: &str, number: u64) -> Result<(), AllocError>
     ensures { OnOk result (text.new.items ≡ text.old.items ++ number_member name.now number) }
@@ -37,7 +37,7 @@ pub fn push_number_member(text: &mut Vec<u8>, name: &str, number: u64) -> Result
 }
 
 /// Adds a member with a number that may be large: from 2^53 on its digits stand within quotation marks, since some
-/// readers of JSON have no larger numbers. The only error is running out of memory.
+/// readers of JSON have no larger numbers. Returns an error if memory runs out.
 #[tactic(auto, unfolding(crate::specs::Words::text_member))]
 pub fn push_wide_member(text: &mut Vec<u8>, name: &str, number: u64) -> Result<(), AllocError>
     ensures { OnOk result (text.new.items ≡ text.old.items ++ wide_member name.now number) }
@@ -56,7 +56,7 @@ pub fn push_wide_member(text: &mut Vec<u8>, name: &str, number: u64) -> Result<(
 ///
 /// # Errors
 ///
-/// [`AllocError`] only when out of memory.
+/// [`AllocError`] if memory runs out.
 #[tactic(auto, unfolding(crate::specs::Words::text_member))]
 pub fn push_text_member(text: &mut Vec<u8>, name: &str, value: &[u8]) -> Result<(), AllocError>
     ensures { OnOk result (text.new.items ≡ text.old.items ++ text_member name.now value.now) }
@@ -67,7 +67,7 @@ pub fn push_text_member(text: &mut Vec<u8>, name: &str, value: &[u8]) -> Result<
     push_word(text, "\"")
 }
 
-/// Adds a member with bytes. The only error is running out of memory.
+/// Adds a member with bytes. Returns an error if memory runs out.
 #[tactic(auto, unfolding(crate::specs::Words::text_member))]
 pub fn push_bytes_member(text: &mut Vec<u8>, name: &str, bytes: &[u8]) -> Result<(), AllocError>
     ensures { OnOk result (text.new.items ≡ text.old.items ++ bytes_member name.now bytes.now) }
@@ -78,8 +78,8 @@ pub fn push_bytes_member(text: &mut Vec<u8>, name: &str, bytes: &[u8]) -> Result
     push_word(text, "\"")
 }
 
-/// Adds the list of the numbers of a side's writes in flight, in the order of posting. The only error is running out of
-/// memory.
+/// Adds the list of the numbers of a side's writes in flight, in the order of posting. Returns an error if memory runs
+/// out.
 #[tactic(auto, unfolding(crate::specs::Words::numbers_list))]
 pub fn push_numbers_in(text: &mut Vec<u8>, side: &SideNumbers) -> Result<(), AllocError>
     ensures { OnOk result (text.new.items ≡ text.old.items ++ numbers_list (numbers_in side.now.flight)) }
@@ -94,7 +94,7 @@ pub fn push_numbers_in(text: &mut Vec<u8>, side: &SideNumbers) -> Result<(), All
     push_word(text, "]")
 }
 
-/// Adds a label. The only error is running out of memory.
+/// Adds a label. Returns an error if memory runs out.
 pub fn push_label(text: &mut Vec<u8>, label: &Label) -> Result<(), AllocError>
     ensures { OnOk result (text.new.items ≡ text.old.items ++ label_object label.now) }
 {

@@ -14,8 +14,8 @@ use report_text::append::push_word;
 use std::alloc::AllocError;
 use step_kinds::{Answer, Frame, Label, PairPlan, Plan, Side, Step};
 
-/// Adds a step as an object. Nothing is added for the name of a pair, a device or a switch that the plan hasn't. The
-/// only error is running out of memory.
+/// Adds a step as an object. Nothing is added for the name of a pair, a device or a switch that the plan hasn't.
+/// Returns an error if memory runs out.
 pub fn push_step(text: &mut Vec<u8>, plan: &Plan, step: &Step) -> Result<(), AllocError>
     ensures { OnOk result (text.new.items ≡ text.old.items ++ step_object plan.now step.now) }
 {
@@ -233,7 +233,7 @@ pub fn change_in(pairs: &[PairPlan], step: &Step, answer: &Answer) -> Change
     }
 }
 
-/// Adds the name of a pair, and nothing where there is none. The only error is running out of memory.
+/// Adds the name of a pair, and nothing where there is none. Returns an error if memory runs out.
 pub fn push_pair_name(text: &mut Vec<u8>, pairs: &[PairPlan], pair: u32) -> Result<(), AllocError>
     ensures { OnOk result (text.new.items ≡ text.old.items ++ pair_name pairs.now pair) }
 {

@@ -82,7 +82,7 @@ impl<'a> TraceLines<'a> {
 /// - a line for each lane in each session where a frame was accepted or delivered,
 /// - a line for each device, and the end.
 ///
-/// The script's plan is one that a script declares (`IsWhole`). The only error is out of memory.
+/// The script's plan is one that a script declares (`IsWhole`). Returns an error if memory runs out.
 pub fn trace_text(alloc: Global, script: &Script) -> Result<Vec<u8>, AllocError>
     requires { IsWhole (plan_in script.now) }
     ensures { IfOk result (λ text. text.items ≡ text_of_plan (plan_in script.now)) }

@@ -81,8 +81,7 @@ impl SideNumbers {
         self.flight.len()
     }
 
-    /// The write at a place in flight, 0 for the one that was posted first. Where none is, its number and its class are
-    /// 0.
+    /// The write at a place in flight, 0 for the one that was posted first. If none is, its number and its class are 0.
     pub fn write_at(&self, place: usize) -> FlyingWrite
         ensures { result ≡ write_at self.now.flight place }
     {
@@ -214,7 +213,7 @@ impl PairNumbers {
         }
     }
 
-    // The pair after a change. The only error is running out of memory, or a side that has posted 2^64 - 1 writes.
+    // The pair after a change. Returns an error if memory runs out or the side has posted 2^64 - 1 writes.
     fn follow(&mut self, change: Change) -> Result<(), AllocError>
         ensures { OnOk result (self.new ≡ pair_after self.old change) }
     {
@@ -254,12 +253,12 @@ impl Model for PairNumbers {
 #[derive(Drop)]
 pub struct WriteNumbers {
     pairs: Vec<PairNumbers>,
-    // What stands for a pair that isn't there: its link is down, and no write was posted.
+    // What represents a pair that isn't there: its link is down, and no write was posted.
     none: PairNumbers,
 }
 
 impl WriteNumbers {
-    /// No write was posted, and each pair's link is as it is declared. The only error is running out of memory.
+    /// No write was posted, and each pair's link is as it is declared. Returns an error if memory runs out.
     pub fn new(alloc: Global, pairs: &[PairPlan]) -> Result<WriteNumbers, AllocError>
         ensures { IfOk result (λ writes. writes ≡ writes_start pairs.now) }
     {
@@ -273,7 +272,7 @@ impl WriteNumbers {
         })
     }
 
-    /// The pair of this number. Where there is none, it is one whose link is down and that posted no write.
+    /// The pair of this number. If there is none, it is one whose link is down and that posted no write.
     pub fn pair(&self, number: u32) -> &PairNumbers
         ensures { result.now ≡ pair_in self.now number }
     {
@@ -284,8 +283,8 @@ impl WriteNumbers {
     }
 
     /// What a step of a script on these pairs changes, where it was answered so: a write more, a write less, no writes,
-    /// a link that is up or isn't. A step on a pair that isn't there changes nothing. The only error is running out of
-    /// memory, which is also the answer where a side has posted 2^64 - 1 writes.
+    /// a link that is up or isn't. A step on a pair that isn't there changes nothing. Returns an error if memory runs
+    /// out, which is also the answer where a side has posted 2^64 - 1 writes.
     pub fn follow(
         &mut self,
         pairs: &[PairPlan],

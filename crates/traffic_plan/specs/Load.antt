@@ -1,4 +1,4 @@
--- The plan of a generated load: one pair, and the steps of so many frames from its side A to its side B.
+-- The plan of a generated load: one pair, and the steps of this many frames from its side A to its side B.
 use Rattle.std.specs.Prelude.{ℕ, zero, suc, ◌+◌, ◌*◌, ◌/◌, ◌%◌, ◌^◌, None, List, [], ◌∷◌, ◌++◌, map}
 use Rattle.std.specs.List.{flat_map, range_with_len}
 use Rattle.rand_xoshiro.specs.SplitMix64.{mix_u64}
@@ -22,7 +22,7 @@ word_at state = (mix_u64 state).0
 unfoldable pub state_past : ℕ → ℕ
 state_past state = (mix_u64 state).1
 
--- its state after so many words; it starts with the seed itself
+-- its state after this many words; it starts with the seed itself
 abbrev pub state_after : ℕ → ℕ → ℕ
 state_after seed zero = seed
 state_after seed (suc n) = state_past (state_after seed n)

@@ -28,7 +28,7 @@ fn push_on(
 }
 
 /// Copies of the frames that the plan's traffic sends on a lane, in the traffic's order. No room is promised for more.
-/// The only error is running out of memory.
+/// Returns an error if memory runs out.
 pub fn lane_traffic(alloc: Global, plan: &Plan, lane: LaneName) -> Result<FrameList, AllocError>
     ensures { IfOk result (λ list. list ≡ with_frames no_frames (frames_on lane plan.now.traffic)) }
 {

@@ -111,8 +111,8 @@ impl LoadFrames {
     }
 
     /// Puts the steps of the next frame in place of those in `steps`; the number of their line is that of the frame,
-    /// counted from 1. Fewer than 30,000 frames were given before. The only error is running out of memory: then
-    /// `steps` is empty, and the same frame is still the next one.
+    /// counted from 1. Fewer than 30,000 frames were given before. Returns an error if memory runs out: then `steps` is
+    /// empty, and the same frame is still the next one.
     pub fn put_next(&mut self, alloc: Global, steps: &mut StepList) -> Result<(), AllocError>
         requires { self.old.given < most_load_frames }
         ensures steps { OnOk result (steps.new ≡ lines_of_frame self.old.seed self.old.given) }
@@ -158,8 +158,8 @@ fn load_lines(alloc: Global, seed: u64, frames: u32) -> Result<Items<Line>, Allo
 }
 
 /// The plan of each load, but for its steps. Its pair, named `p`, starts up with version 4, one queue, one window of
-/// 4,096 bytes and an mtu of 1,023 on both sides. It is neither strict nor raw, and each class is 0. The only error is
-/// running out of memory.
+/// 4,096 bytes and an mtu of 1,023 on both sides. It is neither strict nor raw, and each class is 0. Returns an error
+/// if memory runs out.
 pub fn load_without_steps(alloc: Global) -> Result<Plan, AllocError>
     ensures { IfOk result (λ plan. plan ≡ plan_of []) }
 {
@@ -174,7 +174,7 @@ pub fn load_without_steps(alloc: Global) -> Result<Plan, AllocError>
     })
 }
 
-/// The plan of a load of so many frames, 1 to 30,000, by a seed. The only error is running out of memory.
+/// The plan of a load of this many frames, 1 to 30,000, by a seed. Returns an error if memory runs out.
 ///
 /// Its pair is that of [`load_without_steps`]. SplitMix64 (Steele, Lea and Flood) gives two words of 64 bits a frame.
 /// By the first a frame has 1 to 300 bytes, which are the word's own, the lowest first, again and again. The number of

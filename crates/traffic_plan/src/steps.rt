@@ -45,7 +45,7 @@ pub fn land(side: Side, place: u32) -> Macro
     }
 }
 
-/// The first write of side A in flight lands, so many times.
+/// The first write of side A in flight lands, this many times.
 pub fn land_all(count: u32) -> Macro
     ensures { steps_of result ≡ land_all 0 A count }
 {
@@ -59,7 +59,7 @@ pub fn land_all(count: u32) -> Macro
     }
 }
 
-/// Side B receives a frame in so many copies.
+/// Side B receives a frame in this many copies.
 pub fn receive(copies: u32) -> Macro
     ensures { steps_of result ≡ receive 0 B 0 copies }
 {
@@ -71,7 +71,7 @@ pub fn receive(copies: u32) -> Macro
     }
 }
 
-/// Adds the eight landings that a word says. The only error is running out of memory.
+/// Adds the eight landings that a word says. Returns an error if memory runs out.
 pub fn push_landings(steps: &mut StepList, line: u32, word: u64) -> Result<(), AllocError>
     ensures { OnOk result (steps.new ≡ steps.old ++ lines_with line (landings_of word)) }
 {

@@ -36,7 +36,7 @@ impl<R: Print + Threads + Wait + Sync> Program<'_, R> {
 
 impl<R: Threads + Wait + Sync> Program<'_, R> {
     // Whether, for each call that is made, a source that fails there is answered with status 4 and nothing is written.
-    // Where the call isn't made, the test's status has to come. More calls have to fail than the script has pieces.
+    // If the call isn't made, the test's status has to come. More calls have to fail than the script has pieces.
     fn tells_reads(&self, test: &Test) -> Result<bool, AllocError> {
         for call in 0..CALLS {
             let streams = Streams {
@@ -56,7 +56,7 @@ impl<R: Threads + Wait + Sync> Program<'_, R> {
     }
 
     // Whether, for each call that is made, a sink that fails there is answered with status 5 and keeps a front of the
-    // text, a piece for each call before. Where the call isn't made, the test's status has to come.
+    // text, a piece for each call before. If the call isn't made, the test's status has to come.
     fn tells_writes(&self, test: &Test) -> Result<bool, AllocError> {
         let whole = self.text_of(test, &test.script)?;
         let mut kept = 0usize;

@@ -98,7 +98,7 @@ impl Test {
         Ok(())
     }
 
-    // Adds bytes to the script so many times, or the text that they are to what is wanted.
+    // Adds bytes to the script this many times, or the text that they are to what is wanted.
     fn take_part(&mut self, kind: &str, count: u32, bytes: Vec<u8>) -> io::Result<()> {
         match kind_of(kind) {
             Some(kind) => self.wanted.push(Wanted { kind, text: bytes })?,

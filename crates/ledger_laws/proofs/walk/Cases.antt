@@ -238,7 +238,7 @@ join_cases P pair side queue refused made =
 
 -- Sending
 
--- what a side that begins a frame of so many bytes, which needs so many entries, has passed
+-- what a side that begins a frame of this many bytes, which needs this many entries, has passed
 pub record MaySend (reading : Reading) (sizes : Sizes) (pair : PairPart) (side : Side) (queue len needed : ℕ) : Type 0 where
   pub up : link_up pair ≡ true
   pub joined : has_bit (side_of pair side).joined queue ≡ true
@@ -253,7 +253,7 @@ pub empty_is : {X : Type 0} (xs : List X) → not (is_empty_list xs) ≡ false �
 empty_is [] e = refl
 empty_is (x ∷ xs) e = absurd (true≢false e)
 
--- Where it is false that one of two tests passes, neither does.
+-- If it is false that one of two tests passes, neither does.
 pub neither : (a b : Bool) → (a || b) ≡ false → (a ≡ false) × (b ≡ false)
 neither true b e = absurd (true≢false e)
 neither false b e = (refl, e)

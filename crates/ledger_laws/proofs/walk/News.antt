@@ -105,7 +105,7 @@ abbrev pub sees_taken : ℕ → Role → ℕ → Bool → Bool
 sees_taken q Sender bits saw = saw
 sees_taken q Receiver bits saw = if has_bit bits q then false else saw
 
--- a frame that needs so many entries is begun, on this lane or on another
+-- a frame that needs this many entries is begun, on this lane or on another
 abbrev pub begun_news : Bool → ℕ → ℕ → List ℕ → News
 begun_news own needed n frame = record no_news {
   takes = (if own then needed else 0);

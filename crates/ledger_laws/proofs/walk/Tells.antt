@@ -251,7 +251,7 @@ module _ (plan : Plan) (lane : LaneName) (part : LanePart) (p : ℕ) where
   abbrev IsTold : Step → Answer → News → Type 0
   IsTold step answer news = Tells plan lane part (record { step = step; answer = answer }) news
 
-  -- the entries that a frame of so many bytes needs on the lane
+  -- the entries that a frame of this many bytes needs on the lane
   abbrev needed : ℕ → ℕ
   needed len = pieces_in (sizes_of (pair_plan plan lane.pair) lane.from lane.queue).largest len
 

@@ -91,7 +91,7 @@ pub record MayJoin (s : Sight) (e : Role) (queue : ℕ) : Type 0 where
   pub ready : has_bit (end_at s e).ready queue ≡ true
   pub asked : has_bit (slice_index (end_at s e).pads links_pad) queue ≡ true
 
--- a frame of so many bytes, which needs so many entries, is begun on queue `q`. On a raw pair the bytes say whether
+-- a frame of this many bytes, which needs this many entries, is begun on queue `q`. On a raw pair the bytes say whether
 -- there is room
 pub record MayBegin (raw : Bool) (sizes : Sizes) (q : ℕ) (s : Sight) (len needed : ℕ) : Type 0 where
   pub up : is_up s.state ≡ true
@@ -176,7 +176,7 @@ pub record MayFindNone (raw : Bool) (q : ℕ) (s : Sight) : Type 0 where
   pub idle : is_idle s.lane.phase ≡ true
   pub none : raw ≡ false → (s.lane.flagged == s.lane.got) ≡ true
 
--- entry `got` is a piece of so many bytes, which so many entries of its frame follow
+-- entry `got` is a piece of this many bytes, which this many entries of its frame follow
 pub record IsPiece (lane : LanePart) (len left : ℕ) : Type 0 where
   pub some : (lane.flagged == lane.got) ≡ false
   pub bytes : List ℕ

@@ -7,7 +7,7 @@ use Rattle.posted_queue.specs.Tickets.{AreKept, IsKept}
 use Rattle.posted_queue.proofs.TicketLanding.{LandsKept, lands_kept, landed-kept, blocks_kept, nothing_kept}
 use Rattle.posted_queue.proofs.Queue.land.Goals as goal
 
--- what is so of the flight that the tickets stand for is so of the one that the queue shows
+-- what is so of the flight that the tickets represent is so of the one that the queue shows
 as_shown : {W : Type 0} (order : W → Order) (place : ℕ) {kept shown now : Flight W} {answer : LandAnswer W} → kept ≡ shown → answer ≡ land_answer order kept place → now ≡ after_landing order kept place
     → record { answer : answer ≡ land_answer order shown place; after : now ≡ after_landing order shown place }
 as_shown order place same answered left = record {

@@ -20,7 +20,7 @@ some_words : (words : List (Bor (List ℕ))) (other : Bor (List ℕ)) → 1 ≤ 
 some_words [] other some = absurd (omega arith)
 some_words (word ∷ words) other some = ap (λ rest. word.now ∷ map (λ word. word.now) rest) (sym (take_all (length (word ∷ words) - 1) words (omega arith)))
 
--- the words of a line, the first of them apart, in the part of the script that it stands in
+-- the words of a line, the first of them apart, in that part of the script
 line_in : (before : Before) (part : Part) (words : List (Bor (List ℕ))) (other : Bor (List ℕ)) → 1 ≤ length words → before.part ≡ part
     → words_line before before.part (map (λ word. word.now) words) ≡ words_line before part ((get_or words 0 other).now ∷ map (λ word. word.now) (take (length words - 1) (drop 1 words)))
 line_in before part words other some here =

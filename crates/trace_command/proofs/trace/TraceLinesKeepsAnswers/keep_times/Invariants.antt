@@ -1,4 +1,4 @@
--- The line stands apart, and so many of it are in the text; the numbers of the writes stay.
+-- The line stands apart, and this many of it are in the text; the numbers of the writes stay.
 use Rattle.std.proofs.Common.{◌≡◌, replicate}
 use Rattle.std.specs.List.{fold}
 use Rattle.trace_command.specs.Lines.{step_line}
