@@ -18,7 +18,7 @@ impl SideBook {
     ghost use Rattle.std.specs.Prelude.{◌≡◌};
     ghost use Rattle.bridge_pair.specs.Links.{no_book};
 
-    /// A side that has reached nothing.
+    /// Returns a side that has reached nothing.
     pub fn none() -> SideBook
         ensures { result ≡ no_book }
     {

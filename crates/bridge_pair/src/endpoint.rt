@@ -44,8 +44,8 @@ impl Endpoint {
     ghost use Rattle.std.specs.Borrow.{sem};
     ghost use Rattle.bridge_pair.specs.Lending.{LendsBells};
 
-    /// An end with `len` bytes of memory, to which nothing has come. The only error comes where `len` is 2^63 or more,
-    /// as from [`Memory::new`].
+    /// Returns an end with `len` bytes of memory, to which nothing has come. The only error comes where `len` is 2^63
+    /// or more, as from [`Memory::new`].
     pub fn new(alloc: Global, len: u64) -> Result<Endpoint, AllocError>
         ensures { IfOk result (λ end. end ≡ fresh_end len) }
     {
@@ -59,7 +59,7 @@ impl Endpoint {
         })
     }
 
-    /// An end in the same state, with the same promises. Returns an error if memory runs out.
+    /// Returns an end in the same state, with the same promises. Returns an error if memory runs out.
     pub fn copy_of(&self, alloc: Global) -> Result<Endpoint, AllocError>
         ensures { IfOk result (λ copy. copy ≡ self.now) }
     {
@@ -84,7 +84,7 @@ impl Endpoint {
         let _masked = self.bells.masked();
     }
 
-    /// Whether two ends have the same registers, bytes and writes in flight.
+    /// Returns whether two ends have the same registers, bytes and writes in flight.
     pub fn is_same(&self, other: &Endpoint) -> bool
         ensures { IsTrue result ↔ IsSameEnd self.now other.now }
     {
@@ -94,7 +94,7 @@ impl Endpoint {
             && have_same_bytes(&self.memory, &other.memory)
     }
 
-    /// Whether the write at a place of those that come may land, and makes this end the same as another.
+    /// Returns whether the write at a place of those that come may land, and makes this end the same as another.
     pub fn lands_as(&self, place: usize, other: &Endpoint) -> bool
         ensures { IsTrue result ↔ LandsAsEnd self.now place other.now }
     {
@@ -106,7 +106,7 @@ impl Endpoint {
             && self.arrives_as(&write.arrival, other)
     }
 
-    // Whether what arrives makes the registers and bytes of this end those of another.
+    // Returns whether what arrives makes the registers and bytes of this end those of another.
     fn arrives_as(&self, arrival: &Arrival, other: &Endpoint) -> bool
         requires { HasPlace self.now.memory arrival.now }
         ensures { IsTrue result ↔ HasSameParts (after_arrival self.now arrival.now) other.now }
@@ -131,7 +131,7 @@ impl Endpoint {
         }
     }
 
-    // Whether its registers are these.
+    // Returns whether its registers are these.
     fn has_registers(&self, pads: Pads, bells: Bells) -> bool
         ensures { IsTrue result ↔ ((pads ≡ self.now.pads) × (bells ≡ self.now.bells)) }
     {

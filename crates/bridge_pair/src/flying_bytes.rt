@@ -59,7 +59,7 @@ impl FlyingBytes {
         }
     }
 
-    /// The same bytes, in a buffer of their own where they stand in one. Returns an error if memory runs out.
+    /// Returns the same bytes, in a buffer of their own where they stand in one. Returns an error if memory runs out.
     pub fn copy_of(&self, alloc: Global) -> Result<FlyingBytes, AllocError>
         ensures { IfOk result (λ copy. copy ≡ self.now) }
     {
@@ -75,7 +75,7 @@ impl FlyingBytes {
         })
     }
 
-    /// The bytes.
+    /// Returns the bytes.
     #[inline]
     pub fn as_slice(&self) -> &[u8]
         ensures value { result.now ≡ self.now }
@@ -88,7 +88,7 @@ impl FlyingBytes {
         }
     }
 
-    /// The buffer, where there is one.
+    /// Returns the buffer, where there is one.
     #[inline]
     pub fn into_buffer(self) -> Option<Buffer> {
         match self.kept {

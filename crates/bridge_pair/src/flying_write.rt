@@ -23,7 +23,7 @@ pub enum Arrival {
 }
 
 impl Arrival {
-    /// The same arrival. Returns an error if memory runs out.
+    /// Returns the same arrival. Returns an error if memory runs out.
     pub fn copy_of(&self, alloc: Global) -> Result<Arrival, AllocError>
         ensures { IfOk result (λ copy. copy ≡ self.now) }
     {
@@ -40,7 +40,7 @@ impl Arrival {
         }
     }
 
-    /// Whether two writes arrive at the same place, with the same bytes or value.
+    /// Returns whether two writes arrive at the same place, with the same bytes or value.
     pub fn is_same(&self, other: &Arrival) -> bool
         ensures { IsTrue result ↔ (self.now ≡ other.now) }
     {
@@ -93,7 +93,7 @@ impl Ordered for FlyingWrite {
 }
 
 impl FlyingWrite {
-    /// A side's write with this label, which arrives there at its peer.
+    /// Returns a side's write with this label, which arrives there at its peer.
     #[inline]
     pub fn new(plan: &PairPlan, side: Side, label: Label, arrival: Arrival) -> FlyingWrite
         requires { IsPair plan.now }
@@ -107,7 +107,7 @@ impl FlyingWrite {
         }
     }
 
-    /// A write with the same label and order, which arrives alike. Returns an error if memory runs out.
+    /// Returns a write with the same label and order, which arrives alike. Returns an error if memory runs out.
     pub fn copy_of(&self, alloc: Global) -> Result<FlyingWrite, AllocError>
         ensures { IfOk result (λ copy. copy ≡ self.now) }
     {
@@ -119,7 +119,7 @@ impl FlyingWrite {
         })
     }
 
-    /// Whether two writes have the same label and order, and arrive alike.
+    /// Returns whether two writes have the same label and order, and arrive alike.
     pub fn is_same(&self, other: &FlyingWrite) -> bool
         ensures { IsTrue result ↔ (self.now ≡ other.now) }
     {

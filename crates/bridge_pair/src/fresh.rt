@@ -16,7 +16,7 @@ use plan_numbers::{high_half, low_half, memory_bytes, side_plan};
 use std::alloc::{AllocError, Global};
 use step_kinds::{PairPlan, Side, SidePlan};
 
-/// What a side has reached: all of the handshake where the pair starts up, and else nothing.
+/// Returns what a side has reached: all of the handshake where the pair starts up, and else nothing.
 pub fn fresh_book(plan: &PairPlan, side: Side) -> SideBook
     requires { IsPair plan.now }
     ensures { result ≡ fresh_book_of plan.now side }
@@ -33,8 +33,8 @@ pub fn fresh_book(plan: &PairPlan, side: Side) -> SideBook
     }
 }
 
-/// The end of a side, with nothing in its memory yet. The only error is that of [`Endpoint::new`], and the memory of a
-/// plan that a script can declare is too small for it.
+/// Returns the end of a side, with nothing in its memory yet. The only error is that of [`Endpoint::new`], and the
+/// memory of a plan that a script can declare is too small for it.
 pub fn fresh_endpoint(alloc: Global, plan: &PairPlan, side: Side) -> Result<Endpoint, AllocError>
     requires { IsPair plan.now }
     ensures { IfOk result (λ end. end ≡ record { pads = fresh_pads plan.now side; bells = quiet; memory = zero_memory plan.now side; coming = nothing_in_flight }) }
@@ -46,7 +46,7 @@ pub fn fresh_endpoint(alloc: Global, plan: &PairPlan, side: Side) -> Result<Endp
     Ok(end)
 }
 
-// The set of this many queues, from 0.
+// Returns the set of this many queues, from 0.
 fn all_queues(queues: u32) -> u32
     requires { queues ≤ most_queues }
     ensures { result ≡ all_below queues }
@@ -54,8 +54,8 @@ fn all_queues(queues: u32) -> u32
     (1 << queues) - 1
 }
 
-// The scratchpads of a side that has the peer's whole offer and the word that all its queues are ready. They are the
-// version, the ready queues, the numbers of queues and of windows, and two halves of the size of each window.
+// Returns the scratchpads of a side that has the peer's whole offer and the word that all its queues are ready. They
+// are the version, the ready queues, the numbers of queues and of windows, and two halves of the size of each window.
 fn agreed_pads(peer: SidePlan) -> Pads
     requires queues { peer.queues ≤ most_queues }
     requires windows { peer.windows ≤ most_windows }

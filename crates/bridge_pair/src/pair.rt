@@ -60,11 +60,11 @@ impl Pair {
     ghost use Rattle.bridge_pair.specs.Links.{after_clean, after_cut, after_drop, after_enable, after_train};
     ghost use Rattle.bridge_pair.specs.Same.{EndsLandAs, HasSameEnds, IsSameBridge, LandsAs};
 
-    /// The pair of a plan before any step, with nothing in flight. Its memories are zero and its link is down, unless
-    /// the plan says that the pair starts up. Then all is as after a whole handshake in session 1. The scratchpads have
-    /// the peer's offer and ready queues, all queues are ready and joined on both sides, and the index words say that
-    /// no entry is taken. Their pages are promised, and no others; in a pair that starts down none is. The plan has to
-    /// be one that a script can declare.
+    /// Returns the pair of a plan before any step, with nothing in flight. Its memories are zero and its link is down,
+    /// unless the plan says that the pair starts up. Then all is as after a whole handshake in session 1. The
+    /// scratchpads have the peer's offer and ready queues, all queues are ready and joined on both sides, and the index
+    /// words say that no entry is taken. Their pages are promised, and no others; in a pair that starts down none is.
+    /// The plan has to be one that a script can declare.
     ///
     /// # Errors
     ///
@@ -109,7 +109,7 @@ impl Pair {
         Ok(())
     }
 
-    // The pair before its index words are set.
+    // Returns the pair before its index words are set.
     fn with_zeros(alloc: Global, plan: &PairPlan) -> Result<Pair, AllocError>
         requires { IsPair plan.now }
         ensures { IfOk result (λ pair. pair ≡ fresh_bridge_with plan.now (record { a = zero_memory plan.now A; b = zero_memory plan.now B })) }
@@ -140,7 +140,8 @@ impl Pair {
         self.b.law();
     }
 
-    /// The plan of the pair, which never changes. The clause `law` has what is so of every pair, as [`Pair::law`].
+    /// Returns the plan of the pair, which never changes. The clause `law` has what is so of every pair, as
+    /// [`Pair::law`].
     pub fn plan(&self) -> &PairPlan
         ensures value { result.now ≡ self.now.plan }
         ensures law { IsBridge self.now }
@@ -149,17 +150,17 @@ impl Pair {
         self.plan.as_ref()
     }
 
-    /// Whether two pairs are in the same state: link, books, scratchpads, doorbells, each byte of both memories and all
-    /// writes in flight are the same. What is promised may differ, and plans aren't compared. Pages that neither memory
-    /// has aren't looked at one by one. It takes no memory.
+    /// Returns whether two pairs are in the same state: link, books, scratchpads, doorbells, each byte of both memories
+    /// and all writes in flight are the same. What is promised may differ, and plans aren't compared. Pages that
+    /// neither memory has aren't looked at one by one. It takes no memory.
     pub fn is_same(&self, other: &Pair) -> bool
         ensures { IsTrue result ↔ IsSameBridge self.now other.now }
     {
         self.has_same_link(other) && self.has_same_books(other) && self.has_same_ends(other)
     }
 
-    /// Whether the write that a side has in flight at this place may land, and the pair is then in the same state as
-    /// another, as [`Pair::is_same`] has it. It is found out without landing the write, and takes no memory.
+    /// Returns whether the write that a side has in flight at this place may land, and the pair is then in the same
+    /// state as another, as [`Pair::is_same`] has it. It is found out without landing the write, and takes no memory.
     pub fn lands_as(&self, side: Side, place: usize, other: &Pair) -> bool
         ensures { IsTrue result ↔ LandsAs self.now side place other.now }
     {
@@ -168,8 +169,8 @@ impl Pair {
             && self.ends_land_as(side, place, other)
     }
 
-    /// A pair in the same state, with the same promises: the same pages of both memories, and as much room for writes.
-    /// The two share the plan.
+    /// Returns a pair in the same state, with the same promises: the same pages of both memories, and as much room for
+    /// writes. The two share the plan.
     ///
     /// # Errors
     ///
@@ -188,28 +189,28 @@ impl Pair {
         })
     }
 
-    // Whether the links are in one state and session.
+    // Returns whether the links are in one state and session.
     fn has_same_link(&self, other: &Pair) -> bool
         ensures { IsTrue result ↔ (self.now.link ≡ other.now.link) }
     {
         self.link == other.link
     }
 
-    // Whether both sides have reached the same in the handshake.
+    // Returns whether both sides have reached the same in the handshake.
     fn has_same_books(&self, other: &Pair) -> bool
         ensures { IsTrue result ↔ (self.now.books ≡ other.now.books) }
     {
         self.book_a == other.book_a && self.book_b == other.book_b
     }
 
-    // Whether both ends are the same, with what is in flight towards them.
+    // Returns whether both ends are the same, with what is in flight towards them.
     fn has_same_ends(&self, other: &Pair) -> bool
         ensures { IsTrue result ↔ HasSameEnds self.now other.now }
     {
         self.a.is_same(&other.a) && self.b.is_same(&other.b)
     }
 
-    // Whether both ends are the same once that write has landed.
+    // Returns whether both ends are the same once that write has landed.
     fn ends_land_as(&self, side: Side, place: usize, other: &Pair) -> bool
         ensures { IsTrue result ↔ EndsLandAs self.now side place other.now }
     {
@@ -219,7 +220,7 @@ impl Pair {
         }
     }
 
-    /// What a side has reached in the handshake.
+    /// Returns what a side has reached in the handshake.
     pub fn book(&self, side: Side) -> SideBook
         ensures value { result ≡ book_of self.now side }
         ensures fits { IsBook self.now.plan side result }
@@ -341,7 +342,7 @@ impl Pair {
         }
     }
 
-    // Whether the link is up.
+    // Returns whether the link is up.
     #[inline]
     fn is_up(&self) -> bool
         ensures { result ≡ is_up self.now.link.state }
@@ -383,7 +384,7 @@ impl Pair {
         }
     }
 
-    /// How many writes a side has in flight.
+    /// Returns how many writes a side has in flight.
     pub fn in_flight(&self, side: Side) -> usize
         ensures { result ≡ length (flight_of self.now side).writes }
     {
@@ -393,8 +394,8 @@ impl Pair {
         }
     }
 
-    /// The label of the write at this place of those that a side has in flight, counted from 0 for the one that was
-    /// posted first. `None` if and only if no more than `place` are in flight.
+    /// Returns the label of the write at this place of those that a side has in flight, counted from 0 for the one that
+    /// was posted first. `None` if and only if no more than `place` are in flight.
     pub fn label_at(&self, side: Side, place: usize) -> Option<Label>
         ensures { result ≡ option_map (λ (flying : Flying). flying.label) (slice_get (flight_of self.now side).writes place) }
     {
@@ -404,16 +405,16 @@ impl Pair {
         }
     }
 
-    /// The traffic class, 0 to 7, of a side's write with this label: that of its queue. It is 0 of scratchpads and raw
-    /// bytes, and of a queue from 16 on.
+    /// Returns the traffic class, 0 to 7, of a side's write with this label: that of its queue. It is 0 of scratchpads
+    /// and raw bytes, and of a queue from 16 on.
     pub fn class_of(&self, side: Side, label: Label) -> u32
         ensures { result ≡ order_class (plan_classes self.now.plan side) label }
     {
         class_among(classes_of(self.plan.as_ref(), side), label)
     }
 
-    /// Whether no page is there of those that the `len` bytes from the address `at` of a side's memory on touch, which
-    /// then are all 0. They have to lie in the memory; no bytes touch no page.
+    /// Returns whether no page is there of those that the `len` bytes from the address `at` of a side's memory on
+    /// touch, which then are all 0. They have to lie in the memory; no bytes touch no page.
     pub fn is_blank(&self, side: Side, at: u64, len: u64) -> bool
         requires { at + len ≤ length (bytes_of self.now side) }
         ensures absent { IsTrue result ↔ AreAbsent at len (pages_of self.now side) }
@@ -509,7 +510,7 @@ impl Pair {
         }
     }
 
-    /// The word of a side's scratchpad `index`, 0 to 15 (`ntb_spad_read`).
+    /// Returns the word of a side's scratchpad `index`, 0 to 15 (`ntb_spad_read`).
     pub fn pad(&self, side: Side, index: u32) -> u32
         requires { index < 16 }
         ensures { result ≡ slice_index (pads_of self.now side) index }
@@ -520,7 +521,7 @@ impl Pair {
         }
     }
 
-    /// A side's doorbell: its pending and its masked bits.
+    /// Returns a side's doorbell: its pending and its masked bits.
     pub fn bells(&mut self, side: Side) -> &mut Bells
         ensures* lends { sem 𝓛 (LendsBellsOf self.entry side result) }
         ensures value { result.now ≡ bells_of self.old side }
@@ -531,7 +532,7 @@ impl Pair {
         }
     }
 
-    /// The link: its state, its session, and what each side has said of it.
+    /// Returns the link: its state, its session, and what each side has said of it.
     pub fn link(&self) -> &Link
         ensures { result.now ≡ self.now.link }
     {

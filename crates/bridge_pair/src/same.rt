@@ -10,14 +10,14 @@ use host_memory::Memory;
 use posted_queue::Queue;
 use step_kinds::limits::MOST_WRITE_BYTES;
 
-/// Whether two queues have the same writes in flight, in one order.
+/// Returns whether two queues have the same writes in flight, in one order.
 pub fn have_same_writes(one: &Queue<FlyingWrite>, other: &Queue<FlyingWrite>) -> bool
     ensures { IsTrue result ↔ (one.now.writes ≡ other.now.writes) }
 {
     one.len() == other.len() && have_same_run(one, 0, other, 0, one.len())
 }
 
-/// Whether a queue's writes in flight without the one at a place are those of another, in one order.
+/// Returns whether a queue's writes in flight without the one at a place are those of another, in one order.
 pub fn have_same_writes_without(
     one: &Queue<FlyingWrite>,
     place: usize,
@@ -32,7 +32,7 @@ pub fn have_same_writes_without(
     have_same_run(one, place + 1, other, place, other.len() - place)
 }
 
-// Whether this many writes are the same, from one place on in the one and from another in the other.
+// Returns whether this many writes are the same, from one place on in the one and from another in the other.
 fn have_same_run(
     one: &Queue<FlyingWrite>,
     from: usize,
@@ -52,7 +52,7 @@ fn have_same_run(
     true
 }
 
-// Whether the same write stands at these places of two queues, or none at both.
+// Returns whether the same write stands at these places of two queues, or none at both.
 fn is_same_at(one: &Queue<FlyingWrite>, from: usize, other: &Queue<FlyingWrite>, at: usize) -> bool
     ensures { IsTrue result ↔ (slice_get one.now.writes from ≡ slice_get other.now.writes at) }
 {
@@ -63,15 +63,15 @@ fn is_same_at(one: &Queue<FlyingWrite>, from: usize, other: &Queue<FlyingWrite>,
     }
 }
 
-/// Whether two memories have the same bytes.
+/// Returns whether two memories have the same bytes.
 pub fn have_same_bytes(one: &Memory, other: &Memory) -> bool
     ensures { IsTrue result ↔ (one.now.bytes ≡ other.now.bytes) }
 {
     one.len() == other.len() && one.has_same_between(other, 0, one.len())
 }
 
-/// Whether one memory has the bytes of another once these, at most 128, are written to it from an address on. They have
-/// to lie in it.
+/// Returns whether one memory has the bytes of another once these, at most 128, are written to it from an address on.
+/// They have to lie in it.
 pub fn have_same_bytes_after(one: &Memory, at: u64, bytes: &[u8], other: &Memory) -> bool
     requires within { at + length bytes.now ≤ length one.now.bytes }
     requires few { length bytes.now ≤ most_write_bytes }
@@ -85,7 +85,7 @@ pub fn have_same_bytes_after(one: &Memory, at: u64, bytes: &[u8], other: &Memory
         && one.has_same_between(other, at + bytes.len() as u64, one.len())
 }
 
-// Whether a memory has these bytes, at most 128, from an address on.
+// Returns whether a memory has these bytes, at most 128, from an address on.
 fn has_bytes(memory: &Memory, at: u64, bytes: &[u8]) -> bool
     requires within { at + length bytes.now ≤ length memory.now.bytes }
     requires few { length bytes.now ≤ most_write_bytes }

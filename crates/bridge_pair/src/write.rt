@@ -45,7 +45,8 @@ pub struct Write {
 }
 
 impl Write {
-    /// A write to the peer's memory: 1 to 128 bytes, through the window `window`, from the byte `offset` of it on.
+    /// Returns a write to the peer's memory: 1 to 128 bytes, through the window `window`, from the byte `offset` of it
+    /// on.
     #[inline]
     pub fn memory(label: Label, window: u32, offset: u64, bytes: &[u8]) -> Write
         requires some { 1 ≤ length bytes.now }
@@ -62,7 +63,7 @@ impl Write {
         }
     }
 
-    /// A write of `value` to the peer's scratchpad `index`, 0 to 15 (`ntb_peer_spad_write`).
+    /// Returns a write of `value` to the peer's scratchpad `index`, 0 to 15 (`ntb_peer_spad_write`).
     pub fn pad(index: u32, value: u32) -> Write
         requires { index < 16 }
         ensures { result ≡ pad_write index value }
@@ -73,7 +74,7 @@ impl Write {
         }
     }
 
-    /// The ring of the peer's doorbell for a queue, 0 to 15, whose number is the bit's (`ntb_peer_db_set`).
+    /// Returns the ring of the peer's doorbell for a queue, 0 to 15, whose number is the bit's (`ntb_peer_db_set`).
     pub fn bell(queue: u32) -> Write
         requires { queue < 16 }
         ensures { result ≡ bell_write queue }
@@ -84,7 +85,7 @@ impl Write {
         }
     }
 
-    /// The write's label.
+    /// Returns the write's label.
     pub fn label(&self) -> Label
         ensures { result ≡ self.now.label }
     {

@@ -27,7 +27,7 @@ impl Pads {
         Pads { words: [0; 16] }
     }
 
-    /// The word of the scratchpad `i`, counted from 0, which has to be below 16.
+    /// Returns the word of the scratchpad `i`, counted from 0, which has to be below 16.
     pub fn get(&self, i: u32) -> u32
         requires { i < 16 }
         ensures value { result ≡ slice_index self.now i }
@@ -86,14 +86,14 @@ impl Bells {
         self.pending |= 1 << bit;
     }
 
-    /// The pending bits, masked ones with them.
+    /// Returns the pending bits, masked ones with them.
     pub fn pending(&self) -> u32
         ensures { result ≡ self.now.pending }
     {
         self.pending
     }
 
-    /// The masked bits.
+    /// Returns the masked bits.
     pub fn masked(&self) -> u32
         ensures { result ≡ self.now.masked }
     {

@@ -44,8 +44,8 @@ pub struct Cluster {
 }
 
 impl Cluster {
-    /// The cluster of a plan before any step. The plan is one that a script can declare. The cluster has made no step
-    /// of any plan that declares the same pairs, devices and switches.
+    /// Returns the cluster of a plan before any step. The plan is one that a script can declare. The cluster has made
+    /// no step of any plan that declares the same pairs, devices and switches.
     ///
     /// # Errors
     ///
@@ -151,7 +151,7 @@ impl Cluster {
         }
     }
 
-    // A copy of the first frame that waits at the port on a side and a queue, if one waits.
+    // Returns a copy of the first frame that waits at the port on a side and a queue, if one waits.
     fn next_frame(&self, own: LaneName) -> Result<Option<NextFrame>, AllocError>
         ensures value { IfOk result (λ next. sends_next own next ≡ sending_in self.now own) }
         ensures fits { IfOk result (λ next. IfSome next (CanBeSent self.now)) }
@@ -211,8 +211,8 @@ impl Cluster {
         self.switches[place.switch as usize].arrive(place.port, frame)
     }
 
-    /// How many frames of a lane were accepted and how many delivered in a session, both 0 in a session that wasn't.
-    /// The lane's pair has to be one of the cluster's, and its queue one of both sides.
+    /// Returns how many frames of a lane were accepted and how many delivered in a session, both 0 in a session that
+    /// wasn't. The lane's pair has to be one of the cluster's, and its queue one of both sides.
     pub fn ledger(&self, lane: LaneName, session: u32) -> (u64, u64)
         requires sent { IsQueueOf (plan_held self.now) lane.pair lane.from lane.queue }
         requires received { IsQueueOf (plan_held self.now) lane.pair (other_side lane.from) lane.queue }
@@ -231,7 +231,7 @@ impl Cluster {
         self.fabric.sessions(pair)
     }
 
-    /// What is counted of a device, which has to be one of the cluster's. What an `xnext` sends isn't.
+    /// Returns what is counted of a device, which has to be one of the cluster's. What an `xnext` sends isn't.
     pub fn counters(&self, dev: u32) -> Counters
         requires { dev < length (plan_held self.now).devs }
         ensures { AreCounters self.now dev result }
@@ -241,8 +241,8 @@ impl Cluster {
 }
 
 impl Cluster {
-    /// Whether no step can tell two clusters apart, which have to be of the same pairs, devices and switches. Left out
-    /// are promised room and pages, and what a queue keeps of an entry that it has posted whole.
+    /// Returns whether no step can tell two clusters apart, which have to be of the same pairs, devices and switches.
+    /// Left out are promised room and pages, and what a queue keeps of an entry that it has posted whole.
     ///
     /// If the answer is `true`, whatever steps the one has made, the other has made too. If both have made one list of
     /// steps, it is `true`. It takes no memory.
@@ -254,9 +254,9 @@ impl Cluster {
         self.fabric.is_same(&other.fabric) && are_same_switches(&self.switches, &other.switches)
     }
 
-    /// Whether the write that a side of a pair has in flight at this place may land, and no step can then tell the
-    /// cluster apart from another. [`Cluster::is_same`] says what no step can tell apart. The pair has to be one of the
-    /// cluster's, and both clusters have to be of the same pairs, devices and switches.
+    /// Returns whether the write that a side of a pair has in flight at this place may land, and no step can then tell
+    /// the cluster apart from another. [`Cluster::is_same`] says what no step can tell apart. The pair has to be one of
+    /// the cluster's, and both clusters have to be of the same pairs, devices and switches.
     ///
     /// If the answer is `true`, the other has made whatever steps this one has made and the landing after them. If it
     /// has made such a list, and the landing is answered `landed`, the answer is `true`. It is found out without
@@ -271,7 +271,7 @@ impl Cluster {
             && are_same_switches(&self.switches, &other.switches)
     }
 
-    /// A cluster in the same state, with the same promises. It has made whatever steps this one has made.
+    /// Returns a cluster in the same state, with the same promises. It has made whatever steps this one has made.
     ///
     /// # Errors
     ///
@@ -287,8 +287,8 @@ impl Cluster {
         })
     }
 
-    /// How many writes a side of a pair has in flight. The pair has to be one of the cluster's. Whatever steps the
-    /// cluster has made, a `land` of that side at this place, or at a later one, is answered `nothing` after them.
+    /// Returns how many writes a side of a pair has in flight. The pair has to be one of the cluster's. Whatever steps
+    /// the cluster has made, a `land` of that side at this place, or at a later one, is answered `nothing` after them.
     pub fn in_flight(&self, pair: u32, side: Side) -> usize
         requires { IsPairOf (plan_held self.now) pair }
         ensures count { result ≡ length (flight_of (pair_of self.now.fabric pair).bridge side).writes }
@@ -356,7 +356,7 @@ fn frame_is_short(frame: &Frame)
     let _len = frame.len();
 }
 
-// Whether switches are the same, one after the other.
+// Returns whether switches are the same, one after the other.
 fn are_same_switches(switches: &[Switch], others: &[Switch]) -> bool
     ensures { IsTrue result ↔ (switches.now ≡ others.now) }
 {
@@ -371,7 +371,7 @@ fn are_same_switches(switches: &[Switch], others: &[Switch]) -> bool
     true
 }
 
-// The same switches.
+// Returns the same switches.
 fn switch_copies(alloc: Global, switches: &[Switch]) -> Result<Vec<Switch>, AllocError>
     ensures { IfOk result (λ copies. copies.items ≡ switches.now) }
 {

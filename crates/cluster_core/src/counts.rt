@@ -12,9 +12,9 @@ use crate::cluster::Cluster;
 use std::alloc::{AllocError, Global};
 use step_kinds::{Counters, LaneCount, LaneName, Plan, Side};
 
-/// What the lanes of all pairs accepted and delivered, in each session where either isn't 0, by the log of whatever
-/// steps the cluster has made. The plan is one that a script can declare, and its pairs, devices and switches are the
-/// cluster's. It may be out of memory.
+/// Returns what the lanes of all pairs accepted and delivered, in each session where either isn't 0, by the log of
+/// whatever steps the cluster has made. The plan is one that a script can declare, and its pairs, devices and switches
+/// are the cluster's. It may be out of memory.
 pub fn lane_counts(
     alloc: Global,
     plan: &Plan,
@@ -87,8 +87,8 @@ fn push_session(
     Ok(())
 }
 
-/// What the devices of a plan counted, by the log of whatever steps the cluster has made. The plan is one that a script
-/// can declare, and its pairs, devices and switches are the cluster's. It may be out of memory.
+/// Returns what the devices of a plan counted, by the log of whatever steps the cluster has made. The plan is one that
+/// a script can declare, and its pairs, devices and switches are the cluster's. It may be out of memory.
 pub fn device_counts(
     alloc: Global,
     plan: &Plan,

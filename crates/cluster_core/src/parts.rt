@@ -19,7 +19,7 @@ pub enum StepPart {
     OnBridges,
 }
 
-/// The part that makes a step.
+/// Returns the part that makes a step.
 #[inline(always)]
 pub fn part_of(step: &Step) -> StepPart
     ensures { result ≡ part_by_step step.now }

@@ -9,7 +9,7 @@ use learn_switch::Switch;
 use std::alloc::{AllocError, Global};
 use step_kinds::{Items, Name, SwitchPlan};
 
-/// The same declarations. Returns an error if memory runs out.
+/// Returns the same declarations. Returns an error if memory runs out.
 pub fn copies(alloc: Global, plans: &[SwitchPlan]) -> Result<Vec<SwitchPlan>, AllocError>
     ensures { IfOk result (λ copies. copies.items ≡ plans.now) }
 {
@@ -20,7 +20,7 @@ pub fn copies(alloc: Global, plans: &[SwitchPlan]) -> Result<Vec<SwitchPlan>, Al
     Ok(copies)
 }
 
-// The same declaration.
+// Returns the same declaration.
 fn copy_of(alloc: Global, plan: &SwitchPlan) -> Result<SwitchPlan, AllocError>
     ensures { IfOk result (λ copy. copy ≡ plan.now) }
 {
@@ -30,8 +30,8 @@ fn copy_of(alloc: Global, plan: &SwitchPlan) -> Result<SwitchPlan, AllocError>
     })
 }
 
-/// A switch for each of these declarations, which has no frame and knows no station. Each has 2 to 16 ports. Returns an
-/// error if memory runs out.
+/// Returns a switch for each of these declarations, which has no frame and knows no station. Each has 2 to 16 ports.
+/// Returns an error if memory runs out.
 pub fn new_switches(alloc: Global, plans: &[SwitchPlan]) -> Result<Vec<Switch>, AllocError>
     requires { All (λ plan. IsPorts (length plan.ports)) plans.now }
     ensures { IfOk result (λ switches. switches.items ≡ map (λ plan. new_switch (length plan.ports)) plans.now) }

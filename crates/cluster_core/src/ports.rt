@@ -18,8 +18,9 @@ pub struct PortPlace {
     pub port: u32,
 }
 
-/// The port whose device is on a side and a queue of a pair, which are named as the lane on which the side sends there.
-/// Of several it is the first, by switches and then by ports, and `None` is returned if and only if there is none.
+/// Returns the port whose device is on a side and a queue of a pair, which are named as the lane on which the side
+/// sends there. Of several it is the first, by switches and then by ports, and `None` is returned if and only if there
+/// is none.
 ///
 /// There are at most as many switches, and ports of each, as a script can declare, and each port is one of the devices.
 pub fn port_on(devs: &[DevPlan], plans: &[SwitchPlan], own: LaneName) -> Option<PortPlace>
@@ -39,7 +40,7 @@ pub fn port_on(devs: &[DevPlan], plans: &[SwitchPlan], own: LaneName) -> Option<
     None
 }
 
-// The place, among the ports of a switch, of the device on a side and a queue.
+// Returns the place, among the ports of a switch, of the device on a side and a queue.
 fn place_on(devs: &[DevPlan], ports: &[u32], own: LaneName) -> Option<u32>
     requires few { length ports.now ≤ most_ports }
     requires declared { All (λ dev. dev < length devs.now) ports.now }
@@ -54,7 +55,7 @@ fn place_on(devs: &[DevPlan], ports: &[u32], own: LaneName) -> Option<u32>
     None
 }
 
-// Whether a device is on a side and a queue.
+// Returns whether a device is on a side and a queue.
 fn is_on(dev: &DevPlan, own: LaneName) -> bool
     ensures { result ≡ is_on_lane own dev.now.pair dev.now.side dev.now.queue }
 {

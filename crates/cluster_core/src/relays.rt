@@ -6,7 +6,7 @@ ghost use Rattle.ledger_model.specs.Network.{answer_of};
 use learn_switch::RelayAnswer;
 use step_kinds::Answer;
 
-/// The answer of a switch to a relay, in the words of a script.
+/// Returns the answer of a switch to a relay, in the words of a script.
 pub fn relay_answer(relayed: RelayAnswer) -> Answer
     ensures { result ≡ answer_of relayed }
 {

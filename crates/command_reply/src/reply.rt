@@ -39,7 +39,7 @@ impl Model for Reply {
 }
 
 impl Reply {
-    /// The reply of a command that is done: status 0, and this text.
+    /// Returns the reply of a command that is done: status 0, and this text.
     pub fn done(text: Vec<u8>) -> Reply
         ensures { result ≡ done text.items }
     {
@@ -49,7 +49,7 @@ impl Reply {
         }
     }
 
-    /// A reply of one line, kept in place: a text of less than 96 bytes, and a line feed.
+    /// Returns a reply of one line, kept in place: a text of less than 96 bytes, and a line feed.
     pub fn line(status: Status, text: &str) -> Reply
         requires { length text.now < 96 }
         ensures { result ≡ one_line status text.now }
@@ -63,7 +63,7 @@ impl Reply {
         }
     }
 
-    /// The reply to words that are no command: status 2, and `usage`.
+    /// Returns the reply to words that are no command: status 2, and `usage`.
     pub fn usage() -> Reply
         ensures { result ≡ usage }
     {
@@ -77,14 +77,14 @@ impl Reply {
         Reply::line(Status::TooLong, "too long")
     }
 
-    /// The reply to an exploration that would reach more states than it may: status 8, and `too many states`.
+    /// Returns the reply to an exploration that would reach more states than it may: status 8, and `too many states`.
     pub fn too_many_states() -> Reply
         ensures { result ≡ too_many_states }
     {
         Reply::line(Status::TooManyStates, "too many states")
     }
 
-    /// The reply to an input that is refused at a line, by a cause of at most 64 bytes: status 3, and
+    /// Returns the reply to an input that is refused at a line, by a cause of at most 64 bytes: status 3, and
     /// `refused line L CAUSE`.
     pub fn refused_at(line: u32, cause: &str) -> Reply
         requires { length cause.now ≤ 64 }
@@ -103,21 +103,21 @@ impl Reply {
         }
     }
 
-    /// The reply to a script with a fault: status 3, and the line and the cause of the fault.
+    /// Returns the reply to a script with a fault: status 3, and the line and the cause of the fault.
     pub fn refused(fault: ScriptFault) -> Reply
         ensures { result ≡ refused fault }
     {
         Reply::refused_at(fault.line, fault.fault.cause.word())
     }
 
-    /// The exit status, 0 or 2 to 8.
+    /// Returns the exit status, 0 or 2 to 8.
     pub fn status(&self) -> u8
         ensures { result ≡ self.now.status }
     {
         self.status.number()
     }
 
-    /// The bytes of the text.
+    /// Returns the bytes of the text.
     pub fn text(&self) -> &[u8]
         ensures { result.now ≡ self.now.text }
     {

@@ -25,7 +25,7 @@ pub enum Status {
 }
 
 impl Status {
-    /// The exit status that it is, 0 or 2 to 8.
+    /// Returns the exit status that it is, 0 or 2 to 8.
     pub fn number(self) -> u8
         ensures { result ≡ number_of self }
     {

@@ -7,7 +7,7 @@ use lane_core::{Begun, Lane, LaneCopy, LaneLand, LaneLook};
 use std::alloc::{AllocError, Global};
 use step_kinds::{Frame, Label};
 
-// A frame of the byte `a`.
+// Returns a frame of the byte `a`.
 fn one_byte(alloc: Global) -> Result<Frame, AllocError>
     ensures { IfOk result (λ frame. length frame ≡ 1) }
 {
@@ -35,13 +35,13 @@ pub enum LaneRow {
     LostWriteNeverLands,
 }
 
-/// Whether a strict lane with a ring of two entries shows what the row says. It may be out of memory.
+/// Returns whether a strict lane with a ring of two entries shows what the row says. It may be out of memory.
 pub fn is_shown(alloc: Global, row: LaneRow) -> Result<bool, AllocError> {
     let mut lane = Lane::new(alloc, 0, 2, 1011, true)?;
     shows(alloc, &mut lane, row)
 }
 
-// Whether a lane on which nothing was begun shows it.
+// Returns whether a lane on which nothing was begun shows it.
 fn shows(alloc: Global, lane: &mut Lane, row: LaneRow) -> Result<bool, AllocError>
     requires open { IsOpen lane.old.lane }
     requires few { length lane.old.lane.sent < 2 ^ 46 }
@@ -53,7 +53,7 @@ fn shows(alloc: Global, lane: &mut Lane, row: LaneRow) -> Result<bool, AllocErro
     }
 }
 
-// Whether the first frame of a lane is begun, comes whole, and its entry is given back.
+// Returns whether the first frame of a lane is begun, comes whole, and its entry is given back.
 fn goes_round(alloc: Global, lane: &mut Lane) -> Result<bool, AllocError>
     requires open { IsOpen lane.old.lane }
     requires few { length lane.old.lane.sent < 2 ^ 46 }
@@ -65,13 +65,14 @@ fn goes_round(alloc: Global, lane: &mut Lane) -> Result<bool, AllocError>
     Ok(begun == Begun::Ok { number: 0 } && is_received && gives_its_entry_back(lane))
 }
 
-// Whether the first frame is there, and is copied whole.
+// Returns whether the first frame is there, and is copied whole.
 fn receives_it(lane: &mut Lane) -> Result<bool, AllocError> {
     let looked = lane.look()?;
     Ok(looked == LaneLook::Ready { number: 0, len: 1 } && is_whole(&lane.copy()))
 }
 
-// Whether the first frame's flags are cleared, and the index write that gives its entry back is posted and lands.
+// Returns whether the first frame's flags are cleared, and the index write that gives its entry back is posted and
+// lands.
 fn gives_its_entry_back(lane: &mut Lane) -> bool {
     let index = Label::Index {
         queue: 0,
@@ -89,7 +90,7 @@ fn is_whole(copied: &LaneCopy) -> bool {
     }
 }
 
-// Whether the first entry of a lane is a link-down entry, which is seen twice.
+// Returns whether the first entry of a lane is a link-down entry, which is seen twice.
 fn goes_down(lane: &mut Lane) -> Result<bool, AllocError>
     requires open { IsOpen lane.old.lane }
     requires few { length lane.old.lane.sent < 2 ^ 46 }
@@ -103,7 +104,7 @@ fn goes_down(lane: &mut Lane) -> Result<bool, AllocError>
     )
 }
 
-// Whether the second write of a lane's first frame is lost with the link.
+// Returns whether the second write of a lane's first frame is lost with the link.
 fn posts_in_vain(alloc: Global, lane: &mut Lane) -> Result<bool, AllocError>
     requires open { IsOpen lane.old.lane }
     requires few { length lane.old.lane.sent < 2 ^ 46 }

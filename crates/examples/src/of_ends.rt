@@ -25,7 +25,7 @@ pub enum EndsRow {
     ThreadsKeepOrder,
 }
 
-/// Whether the ends of a lane show what the row says. It may be out of memory.
+/// Returns whether the ends of a lane show what the row says. It may be out of memory.
 pub fn ends_show<R: Threads + Sync>(
     rt: &R,
     alloc: Global,
@@ -49,7 +49,7 @@ fn send(alloc: Global, end: &mut SendEnd, byte: u8) -> Result<SendAnswer, AllocE
     Ok(end.send(frame))
 }
 
-// Whether a frame of this byte is sent, as the entry with this number.
+// Returns whether a frame of this byte is sent, as the entry with this number.
 fn sends(alloc: Global, end: &mut SendEnd, byte: u8, entry: u64) -> Result<bool, AllocError>
     requires { length end.old.part.sent < 8 }
     ensures lane { end.new.lane ≡ end.old.lane }
@@ -62,7 +62,7 @@ fn sends(alloc: Global, end: &mut SendEnd, byte: u8, entry: u64) -> Result<bool,
     })
 }
 
-// Whether a frame of this byte comes back, since the ring is full, with head and tail at this position.
+// Returns whether a frame of this byte comes back, since the ring is full, with head and tail at this position.
 fn is_refused(alloc: Global, end: &mut SendEnd, byte: u8, at: u32) -> Result<bool, AllocError>
     requires { length end.old.part.sent < 8 }
     ensures lane { end.new.lane ≡ end.old.lane }
@@ -81,7 +81,7 @@ fn is_byte(frame: &Frame, byte: u8) -> bool {
     frame.bytes() == [byte].as_slice()
 }
 
-// Whether a frame of this byte is received, as the entry with this number.
+// Returns whether a frame of this byte is received, as the entry with this number.
 fn receives(end: &mut RecvEnd, byte: u8, entry: u64) -> bool {
     match end.recv() {
         RecvAnswer::Got { number, frame } => number == entry && is_byte(&frame, byte),
@@ -89,7 +89,7 @@ fn receives(end: &mut RecvEnd, byte: u8, entry: u64) -> bool {
     }
 }
 
-// Whether nothing is received.
+// Returns whether nothing is received.
 fn receives_none(end: &mut RecvEnd) -> bool {
     match end.recv() {
         RecvAnswer::Got { .. } => false,
@@ -97,7 +97,7 @@ fn receives_none(end: &mut RecvEnd) -> bool {
     }
 }
 
-// Whether a ring of four entries takes `a`, `b` and `c`, and `d` comes back.
+// Returns whether a ring of four entries takes `a`, `b` and `c`, and `d` comes back.
 fn is_filled(alloc: Global, end: &mut SendEnd) -> Result<bool, AllocError>
     requires { length end.old.part.sent ≡ 0 }
     ensures { end.new.lane ≡ end.old.lane }
@@ -109,7 +109,7 @@ fn is_filled(alloc: Global, end: &mut SendEnd) -> Result<bool, AllocError>
     Ok(first && second && third && fourth)
 }
 
-// A ring of four entries, in one thread.
+// Returns a ring of four entries, in one thread.
 fn full_ring_refuses(alloc: Global) -> Result<bool, AllocError> {
     let (mut send, mut mover, mut recv, _back, _cut) = make(alloc, 4)?;
     let filled = is_filled(alloc, &mut send)?;
@@ -124,20 +124,20 @@ fn full_ring_refuses(alloc: Global) -> Result<bool, AllocError> {
     )
 }
 
-// Whether the first frame is taken, and its header and its flag are stored.
+// Returns whether the first frame is taken, and its header and its flag are stored.
 fn moves_first(end: &mut MoveEnd) -> bool {
     end.step(0) == MoveAnswer::Took { number: 0 }
         && end.step(0) == MoveAnswer::Header { number: 0 }
         && end.step(0) == MoveAnswer::Flag { number: 0 }
 }
 
-// A ring of two entries, which has room for one frame.
+// Returns a ring of two entries, which has room for one frame.
 fn entry_is_given_back(alloc: Global) -> Result<bool, AllocError> {
     let (mut send, mut mover, mut recv, mut back, _cut) = make(alloc, 2)?;
     goes_round(alloc, &mut send, &mut mover, &mut recv, &mut back)
 }
 
-// Whether the entry of a ring of two goes round, and takes the next frame.
+// Returns whether the entry of a ring of two goes round, and takes the next frame.
 fn goes_round(
     alloc: Global,
     send: &mut SendEnd,
@@ -156,14 +156,14 @@ fn goes_round(
     Ok(first && second && is_round && third)
 }
 
-// A ring of two entries whose link is cut before the first frame.
+// Returns a ring of two entries whose link is cut before the first frame.
 fn cut_lane_refuses(alloc: Global) -> Result<bool, AllocError> {
     let (mut send, _mover, _recv, _back, mut cut) = make(alloc, 2)?;
     cut.cut();
     comes_back(alloc, &mut send)
 }
 
-// Whether a frame comes back, since the link is cut.
+// Returns whether a frame comes back, since the link is cut.
 fn comes_back(alloc: Global, end: &mut SendEnd) -> Result<bool, AllocError>
     requires { length end.old.part.sent ≡ 0 }
 {
@@ -219,7 +219,7 @@ fn threads_keep_order<R: Threads + Sync>(rt: &R, alloc: Global) -> Result<bool, 
     Ok(filled && got.as_slice() == b"abc".as_slice())
 }
 
-// What came, whether the ring was filled, and what the lane leaves.
+// Returns what came, whether the ring was filled, and what the lane leaves.
 fn carried<R: Threads + Sync>(
     rt: &R,
     alloc: Global,

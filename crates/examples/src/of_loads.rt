@@ -4,14 +4,14 @@ use std::alloc::{AllocError, Global};
 use step_kinds::{LaneName, Plan, Side};
 use traffic_plan::{generate, lane_traffic};
 
-/// Whether a load of one frame of 66 bytes, which seed 1 gives, has its 24 steps, and no traffic on its lane. It may
-/// be out of memory.
+/// Returns whether a load of one frame of 66 bytes, which seed 1 gives, has its 24 steps, and no traffic on its lane.
+/// It may be out of memory.
 pub fn load_has_its_steps(alloc: Global) -> Result<bool, AllocError> {
     let plan = generate(alloc, 1, 1)?;
     has_its_steps(alloc, &plan)
 }
 
-// Whether a plan has 24 steps, and no traffic on the lane from side A.
+// Returns whether a plan has 24 steps, and no traffic on the lane from side A.
 fn has_its_steps(alloc: Global, plan: &Plan) -> Result<bool, AllocError> {
     let lane = LaneName {
         pair: 0,

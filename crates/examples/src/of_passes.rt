@@ -11,7 +11,7 @@ use std::sync::atomic::{AtomicU64, Ordering};
 use step_kinds::{Frame, FrameList};
 use table_lane::{BackEnd, CutEnd, MoveEnd, RecvEnd, SendEnd, make};
 
-// A frame of one byte.
+// Returns a frame of one byte.
 fn frame_of(alloc: Global, byte: u8) -> Result<Frame, AllocError>
     ensures { IfOk result (λ frame. frame ≡ byte ∷ []) }
 {
@@ -43,7 +43,7 @@ fn two_frames(alloc: Global) -> Result<FrameList, AllocError>
     Ok(list)
 }
 
-// A lane with two entries and two frames to send.
+// Returns a lane with two entries and two frames to send.
 fn new_lane(alloc: Global) -> Result<Lane, AllocError>
     ensures bytes { IfOk result (λ lane. HaveBytes lane.todo.frames) }
     ensures few { IfOk result (λ lane. length lane.send.part.sent + length lane.todo.frames ≡ 2) }
@@ -64,7 +64,7 @@ fn new_lane(alloc: Global) -> Result<Lane, AllocError>
     })
 }
 
-// A pass of each worker; the turns that they made.
+// Returns a pass of each worker; the turns that they made.
 fn go_round<G: Gate>(lane: &mut Lane, gate: &G) -> [u32; 4]
     requires bytes { HaveBytes lane.old.todo.frames }
     requires few { length lane.old.send.part.sent + length lane.old.todo.frames ≡ 2 }
@@ -100,7 +100,7 @@ impl Sums {
         }
     }
 
-    // The sums by worker.
+    // Returns the sums by worker.
     fn all(&self) -> [u64; 4] {
         let [sender, mover, receiver, cutter] = &self.of;
         [
@@ -122,15 +122,15 @@ impl Gate for Sums {
     }
 }
 
-/// Whether of two frames one goes round a ring of two entries, before the link is cut and the other one stays. Turns 0
-/// and 1 of worker 0, 0 to 2 of worker 1, 0 and 1 of worker 2, and 5 of worker 3 pass the gate. Returns an error if
-/// memory runs out.
+/// Returns whether of two frames one goes round a ring of two entries, before the link is cut and the other one stays.
+/// Turns 0 and 1 of worker 0, 0 to 2 of worker 1, 0 and 1 of worker 2, and 5 of worker 3 pass the gate. Returns an
+/// error if memory runs out.
 pub fn one_of_two_frames_goes_round(alloc: Global) -> Result<bool, AllocError> {
     let mut lane = new_lane(alloc)?;
     Ok(goes_round(&mut lane) && lane.got.len() == 1 && stays_after_the_cut(&mut lane))
 }
 
-// Whether the first frame goes round.
+// Returns whether the first frame goes round.
 fn goes_round(lane: &mut Lane) -> bool
     requires bytes { HaveBytes lane.old.todo.frames }
     requires few { length lane.old.send.part.sent + length lane.old.todo.frames ≡ 2 }
@@ -144,7 +144,7 @@ fn goes_round(lane: &mut Lane) -> bool
     turns == [2, 3, 2, 1] && gate.all() == [3, 6, 3, 6]
 }
 
-// Whether the second frame stays, since the link is cut.
+// Returns whether the second frame stays, since the link is cut.
 fn stays_after_the_cut(lane: &mut Lane) -> bool
     requires bytes { HaveBytes lane.old.todo.frames }
     requires few { length lane.old.send.part.sent + length lane.old.todo.frames ≡ 2 }

@@ -12,7 +12,7 @@ use std::alloc::{AllocError, Global};
 use step_kinds::{Frame, Label, Side};
 use traffic_plan::load_without_steps;
 
-// The pair of a load, which starts up.
+// Returns the pair of a load, which starts up.
 fn new_pair(alloc: Global) -> Result<Pair, AllocError>
     ensures { IfOk result (λ pair. pair.plan ≡ load_pair) }
 {
@@ -20,7 +20,7 @@ fn new_pair(alloc: Global) -> Result<Pair, AllocError>
     Pair::new(alloc, &plan.pairs.as_slice()[0])
 }
 
-// The queue of its side A.
+// Returns the queue of its side A.
 fn new_queue(alloc: Global, pair: &Pair) -> QueuePair
     requires { pair.now.plan ≡ load_pair }
     ensures { result ≡ fresh_queue load_pair A 0 }
@@ -28,7 +28,7 @@ fn new_queue(alloc: Global, pair: &Pair) -> QueuePair
     QueuePair::new(alloc, pair.plan(), Side::A, 0)
 }
 
-// A frame of the byte `a`.
+// Returns a frame of the byte `a`.
 fn one_byte(alloc: Global) -> Result<Frame, AllocError>
     ensures { IfOk result (λ frame. length frame ≡ 1) }
 {
@@ -57,14 +57,14 @@ const WRITES: [Label; 5] = [
     Label::Bell { queue: 0 },
 ];
 
-/// Whether a frame of one byte is begun on a pair that starts up, and its five writes are posted in order. Before that
-/// another begin has to be refused, and after it nothing may be left to post. It may be out of memory.
+/// Returns whether a frame of one byte is begun on a pair that starts up, and its five writes are posted in order.
+/// Before that another begin has to be refused, and after it nothing may be left to post. It may be out of memory.
 pub fn begun_frame_is_posted(alloc: Global) -> Result<bool, AllocError> {
     let mut pair = new_pair(alloc)?;
     is_posted_on(alloc, &mut pair)
 }
 
-// Whether the first queue of side A shows it.
+// Returns whether the first queue of side A shows it.
 fn is_posted_on(alloc: Global, pair: &mut Pair) -> Result<bool, AllocError>
     requires { pair.old.plan ≡ load_pair }
 {
@@ -72,7 +72,7 @@ fn is_posted_on(alloc: Global, pair: &mut Pair) -> Result<bool, AllocError>
     is_posted(alloc, &mut queue, pair)
 }
 
-// Whether a queue shows it on which nothing was begun.
+// Returns whether a queue shows it on which nothing was begun.
 fn is_posted(alloc: Global, queue: &mut QueuePair, pair: &mut Pair) -> Result<bool, AllocError>
     requires { IsQueueOn pair.old queue.old }
 {
@@ -104,7 +104,7 @@ fn post(queue: &mut QueuePair, pair: &mut Pair) -> Option<Label>
     queue.post(pair)
 }
 
-// Whether these are the next writes that are posted.
+// Returns whether these are the next writes that are posted.
 fn posts(queue: &mut QueuePair, pair: &mut Pair, writes: &[Label]) -> bool
     requires { IsQueueOn pair.old queue.old }
     ensures { IsQueueOn pair.new queue.new }

@@ -6,7 +6,7 @@ use resume_stream::{StreamEvent, StreamReceiver, StreamSender, TakeAnswer, run_w
 use std::alloc::{AllocError, Global};
 use step_kinds::{Frame, FrameList};
 
-// The items `a` and `b`.
+// Returns the items `a` and `b`.
 fn both(alloc: Global) -> Result<FrameList, AllocError>
     ensures { IfOk result (λ items. length items.frames ≡ 2) }
 {
@@ -35,7 +35,7 @@ const LOST: [StreamEvent; 12] = [
     StreamEvent::Carry,
 ];
 
-/// Whether both items come once, in order, although a session is lost. It may be out of memory.
+/// Returns whether both items come once, in order, although a session is lost. It may be out of memory.
 pub fn all_items_come(alloc: Global) -> Result<bool, AllocError> {
     let (_sender, receiver) = run_world(alloc, both(alloc)?, &LOST)?;
     let items = receiver.into_items();
@@ -46,8 +46,8 @@ pub fn all_items_come(alloc: Global) -> Result<bool, AllocError> {
     )
 }
 
-/// Whether the second session of two ends begins again where the first one did, which was lost before anything was
-/// acknowledged. The item that the receiver has is old there, and after the last item the sender gives none. It may
+/// Returns whether the second session of two ends begins again where the first one did, which was lost before anything
+/// was acknowledged. The item that the receiver has is old there, and after the last item the sender gives none. It may
 /// be out of memory.
 pub fn second_session_begins_again(alloc: Global) -> Result<bool, AllocError> {
     let mut sender = StreamSender::new(alloc, both(alloc)?);
@@ -55,7 +55,7 @@ pub fn second_session_begins_again(alloc: Global) -> Result<bool, AllocError> {
     begins_again(&mut sender, &mut receiver)
 }
 
-// Whether both ends do so.
+// Returns whether both ends do so.
 fn begins_again(
     sender: &mut StreamSender,
     receiver: &mut StreamReceiver,
@@ -71,7 +71,7 @@ fn begins_again(
     Ok(first_start && kept && second_start && old && next_kept && ends)
 }
 
-// Whether the sender's next frame is taken with this answer. The receiver keeps one item at most before it.
+// Returns whether the sender's next frame is taken with this answer. The receiver keeps one item at most before it.
 fn is_taken(
     sender: &mut StreamSender,
     receiver: &mut StreamReceiver,

@@ -13,9 +13,9 @@ use script_text::{ParseError, parse};
 use std::alloc::{AllocError, Global};
 use step_kinds::Plan;
 
-/// The reply of `explore` to a script of at most 16,777,216 bytes: all outcomes of its schedules, with status 0, or its
-/// first line with a fault, with status 3. If the schedules reach more than 1,000,000 states, it is `too many states`,
-/// with status 8. Returns an error if memory runs out.
+/// Returns the reply of `explore` to a script of at most 16,777,216 bytes: all outcomes of its schedules, with status
+/// 0, or its first line with a fault, with status 3. If the schedules reach more than 1,000,000 states, it is
+/// `too many states`, with status 8. Returns an error if memory runs out.
 pub fn explore_reply(alloc: Global, bytes: &[u8]) -> Result<Reply, AllocError>
     requires { length bytes.now ≤ most_script_bytes }
     ensures { IfOk result (λ reply. IsExploreOf bytes.now reply) }
@@ -27,7 +27,7 @@ pub fn explore_reply(alloc: Global, bytes: &[u8]) -> Result<Reply, AllocError>
     }
 }
 
-// The reply to the plan of a script.
+// Returns the reply to the plan of a script.
 fn exploration(alloc: Global, plan: &Plan) -> Result<Reply, AllocError>
     requires { IsWhole plan.now }
     ensures { IfOk result (λ reply. ExploresTo (Ok plan.now) reply) }

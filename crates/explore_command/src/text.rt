@@ -31,8 +31,8 @@ use report_text::append::{push_numbers, push_word};
 use std::alloc::{AllocError, Global};
 use step_kinds::{Line, Plan, Side};
 
-/// The text of the outcomes of a plan's schedules, and of how many states they reach. Each further landing of an
-/// outcome has to be of a pair of the plan. Returns an error if memory runs out.
+/// Returns the text of the outcomes of a plan's schedules, and of how many states they reach. Each further landing of
+/// an outcome has to be of a pair of the plan. Returns an error if memory runs out.
 pub fn explored_text(
     alloc: Global,
     plan: &Plan,
@@ -51,14 +51,14 @@ pub fn explored_text(
     Ok(text)
 }
 
-// Whether all outcomes have the same answer, for each of this many steps.
+// Returns whether all outcomes have the same answer, for each of this many steps.
 fn agreed_steps(alloc: Global, outcomes: &[Outcome], count: usize) -> Result<Vec<bool>, AllocError>
     ensures { IfOk result (λ agreed. agreed.items ≡ map (agree_by_answers outcomes.now) (range_with_len 0 count)) }
 {
     (0..count).map(|k| agree_on(outcomes, k)).collect(alloc)
 }
 
-// Whether all outcomes have the same answer to the step with a number.
+// Returns whether all outcomes have the same answer to the step with a number.
 fn agree_on(outcomes: &[Outcome], k: usize) -> bool
     ensures { result ≡ agree_by_answers outcomes.now k }
 {
@@ -68,7 +68,7 @@ fn agree_on(outcomes: &[Outcome], k: usize) -> bool
         .all(|outcome| answer_at(outcome, k) == first)
 }
 
-// The answer of the first outcome to the step with a number.
+// Returns the answer of the first outcome to the step with a number.
 fn first_answer(outcomes: &[Outcome], k: usize) -> &[u8]
     ensures { result.now ≡ answer_of_first outcomes.now k }
 {
@@ -78,7 +78,7 @@ fn first_answer(outcomes: &[Outcome], k: usize) -> &[u8]
     }
 }
 
-// The answer of an outcome to the step with a number.
+// Returns the answer of an outcome to the step with a number.
 fn answer_at(outcome: &Outcome, k: usize) -> &[u8]
     ensures { result.now ≡ answer_by_place outcome.now k }
 {
@@ -180,7 +180,7 @@ fn push_land(text: &mut Vec<u8>, plan: &Plan, landing: &Landing) -> Result<(), A
     push_numbers(text, &[u64::from(landing.place)])
 }
 
-// A side after a space.
+// Returns a side after a space.
 fn side_word(side: Side) -> &'static str
     ensures { result.now ≡ 32 ∷ side_text side }
 {
@@ -190,7 +190,7 @@ fn side_word(side: Side) -> &'static str
     }
 }
 
-// The line of the script from which the step with a number comes, 0 where there is none.
+// Returns the line of the script from which the step with a number comes, 0 where there is none.
 fn line_at(steps: &[Line], k: usize) -> u32
     ensures { result ≡ line_by_place steps.now k }
 {
@@ -200,7 +200,7 @@ fn line_at(steps: &[Line], k: usize) -> u32
     }
 }
 
-// Which step of its line the step with a number is, from 1.
+// Returns which step of its line the step with a number is, from 1.
 fn place_in_line(steps: &[Line], line: u32, k: usize) -> u64
     requires { line ≡ line_by_place steps.now k }
     ensures { result ≡ place_among_steps steps.now k }
@@ -289,7 +289,7 @@ fn push_where(
     push_answer(text, plan, k, first_answer(outcomes, k))
 }
 
-// Whether all outcomes agree on the step with a number, as it was found before.
+// Returns whether all outcomes agree on the step with a number, as it was found before.
 fn was_agreed(plan: &Plan, outcomes: &[Outcome], agreed: &[bool], k: usize) -> bool
     requires among { k < length plan.now.steps }
     requires agreed { agreed.now ≡ map (agree_by_answers outcomes.now) (step_numbers plan.now) }

@@ -19,7 +19,7 @@ pub struct Landing {
 }
 
 impl Landing {
-    /// The step by which the landing is made.
+    /// Returns the step by which the landing is made.
     pub fn as_step(self) -> Step
         ensures { result ≡ landing_step self }
     {

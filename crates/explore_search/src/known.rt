@@ -14,9 +14,9 @@ use explore_model::Landing;
 use std::alloc::{AllocError, Global};
 use step_kinds::Plan;
 
-/// Whether a landing after one of the states, which are all after this many steps of the plan, leads to one of them. It
-/// is found out without making the landing, and only by machines that states keep. If the answer is `false`, the
-/// landing may lead to one of them all the same. Returns an error if memory runs out.
+/// Returns whether a landing after one of the states, which are all after this many steps of the plan, leads to one of
+/// them. It is found out without making the landing, and only by machines that states keep. If the answer is `false`,
+/// the landing may lead to one of them all the same. Returns an error if memory runs out.
 pub fn leads_back<M: Machine>(
     alloc: Global,
     plan: &Plan,
@@ -39,8 +39,8 @@ pub fn leads_back<M: Machine>(
     Ok(lands_among(states, &key, machine, landing))
 }
 
-// Whether one of the states with this key keeps a machine that is the same as another once a landing has landed on
-// that.
+// Returns whether one of the states with this key keeps a machine that is the same as another once a landing has landed
+// on that.
 fn lands_among<M: Machine>(states: &States<M>, key: &Vec<u8>, machine: &M, landing: Landing) -> bool
     requires pair { IsPairOf (M.plan_held machine.now) landing.pair }
     requires states { AreOfPlan M.plan_held (M.plan_held machine.now) states.now }

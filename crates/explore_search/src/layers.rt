@@ -90,7 +90,7 @@ fn step_state<M: Machine>(
     )
 }
 
-// The machine that is kept, or one that is made anew along the path.
+// Returns the machine that is kept, or one that is made anew along the path.
 fn machine_at<M: Machine>(
     alloc: Global,
     plan: &Plan,
@@ -142,7 +142,7 @@ fn place_in<M: Machine>(
     }
 }
 
-// The place of the branch of a text among branches in their order, or where it would be put in.
+// Returns the place of the branch of a text among branches in their order, or where it would be put in.
 fn place_of<M: Machine>(branches: &[Branch<M>], text: &[u8]) -> Result<usize, usize>
     ensures { IsPlaceOf branches.now text.now result }
 {
@@ -206,7 +206,7 @@ fn push_group<M: Machine>(
     Ok(())
 }
 
-/// A copy of texts. Returns an error if memory runs out.
+/// Returns a copy of texts. Returns an error if memory runs out.
 fn copy_of(alloc: Global, texts: &[Items<u8>]) -> Result<Items<Items<u8>>, AllocError>
     ensures { IfOk result (λ copy. copy ≡ texts.now) }
 {

@@ -8,7 +8,7 @@ const MOST_LIVE: u64 = 16_384;
 // The most bytes that the memories of a group's kept machines may have: 512 MiB.
 const LIVE_BYTES: u64 = 536_870_912;
 
-/// How many states of a group keep their machines at most: 16,384, and no more than whose memories have 512 MiB
+/// Returns how many states of a group keep their machines at most: 16,384, and no more than whose memories have 512 MiB
 /// together. Later groups of a layer may keep fewer. It is free which do: a machine that isn't kept is made anew along
 /// its path.
 pub fn most_live(plan: &Plan) -> usize {
@@ -21,7 +21,7 @@ pub fn most_live(plan: &Plan) -> usize {
     (LIVE_BYTES / bytes.max(1)).min(MOST_LIVE) as usize
 }
 
-// The most bytes that a side's memory can have.
+// Returns the most bytes that a side's memory can have.
 fn memory_of(side: SidePlan) -> u64 {
     u64::from(side.windows).saturating_mul(side.cap)
 }

@@ -32,15 +32,15 @@ pub trait Machine: Drop {
     // those bytes without the write of a landing
     ghost key_without: { Self → LandingValue → List ℕ };
 
-    /// A machine that has made no step of the plan, which is one that a script can declare. Returns an error if memory
-    /// runs out.
+    /// Returns a machine that has made no step of the plan, which is one that a script can declare. Returns an error if
+    /// memory runs out.
     fn fresh(alloc: Global, plan: &Plan) -> Result<Self, AllocError>
         requires declared { IsDeclared plan.now }
         requires switches { AreSwitches plan.now }
         ensures made { IfOk result (λ machine. has_made machine plan.now []) }
         ensures plan { IfOk result (λ machine. plan_held machine ≡ declared_part plan.now) };
 
-    /// A machine in the same state. Returns an error if memory runs out.
+    /// Returns a machine in the same state. Returns an error if memory runs out.
     fn copy_of(&self, alloc: Global) -> Result<Self, AllocError>
         ensures { IfOk result (λ copy. copy ≡ self.now) };
 
@@ -57,22 +57,22 @@ pub trait Machine: Drop {
             IfOk result (λ answer. is_landed answer ≡ false → has_made self.new plan steps) }
         ensures plan { plan_held self.new ≡ plan_held self.old };
 
-    /// Whether two machines of one plan are in the same state: no later step tells them apart.
+    /// Returns whether two machines of one plan are in the same state: no later step tells them apart.
     fn is_same(&self, other: &Self) -> bool
         requires { plan_held self.now ≡ plan_held other.now }
         ensures merges { IsTrue result → (plan : PlanValue) (steps : List StepValue) → has_made self.now plan steps → has_made other.now plan steps }
         ensures apart { (plan : PlanValue) (steps : List StepValue) → has_made self.now plan steps → has_made other.now plan steps → IsTrue result };
 
-    /// Whether the write of a landing may land, and the machine is then in the same state as another of its plan. It is
-    /// found out without making the landing. The landing's pair has to be one of the plan's.
+    /// Returns whether the write of a landing may land, and the machine is then in the same state as another of its
+    /// plan. It is found out without making the landing. The landing's pair has to be one of the plan's.
     fn lands_as(&self, landing: Landing, other: &Self) -> bool
         requires plans { plan_held self.now ≡ plan_held other.now }
         requires pair { IsPairOf (plan_held self.now) landing.pair }
         ensures merges { IsTrue result → (plan : PlanValue) (steps : List StepValue) → has_made self.now plan steps → has_made other.now plan (steps ++ landing_step landing ∷ []) }
         ensures apart { (plan : PlanValue) (steps : List StepValue) → has_made self.now plan steps → is_landed (answer_after plan (memory_of plan) steps (landing_step landing)) ≡ true → has_made other.now plan (steps ++ landing_step landing ∷ []) → IsTrue result };
 
-    /// How many writes a side of a pair has in flight. From this place on no landing finds a write. The pair has to be
-    /// one of the plan's.
+    /// Returns how many writes a side of a pair has in flight. From this place on no landing finds a write. The pair
+    /// has to be one of the plan's.
     fn in_flight(&self, pair: u32, side: Side) -> usize
         requires { IsPairOf (plan_held self.now) pair }
         ensures { (plan : PlanValue) (steps : List StepValue) (place : ℕ) → has_made self.now plan steps → result ≤ place →

@@ -13,8 +13,8 @@ use explore_model::Landing;
 use std::alloc::{AllocError, Global};
 use step_kinds::{Line, Plan};
 
-/// A machine that has made this many steps of a plan, and these landings between them. Returns an error if memory runs
-/// out.
+/// Returns a machine that has made this many steps of a plan, and these landings between them. Returns an error if
+/// memory runs out.
 pub fn rebuilt<M: Machine>(
     alloc: Global,
     plan: &Plan,

@@ -57,7 +57,7 @@ pub fn explore<M: Machine>(alloc: Global, plan: &Plan) -> Result<Explored, Alloc
     })
 }
 
-// The first layer: one state, in which nothing was made.
+// Returns the first layer: one state, in which nothing was made.
 fn start<M: Machine>(alloc: Global, plan: &Plan) -> Result<Vec<Group<M>>, AllocError>
     requires { IsExplorable plan.now }
     ensures { IfOk result (λ layer. IsBased M.has_made M.plan_held M.key_of plan.now 0 layer.items) }
@@ -81,7 +81,7 @@ fn start<M: Machine>(alloc: Global, plan: &Plan) -> Result<Vec<Group<M>>, AllocE
     Ok(layer)
 }
 
-// The outcomes of groups: the answers of each, and the path to its first state.
+// Returns the outcomes of groups: the answers of each, and the path to its first state.
 fn outcomes_of<M: Machine>(alloc: Global, layer: Vec<Group<M>>) -> Result<Vec<Outcome>, AllocError>
     requires { All (λ group. 0 < length group.states) layer.items }
     ensures { IfOk result (λ outcomes. outcomes.items ≡ map outcome_of layer.items) }
@@ -96,7 +96,7 @@ fn outcomes_of<M: Machine>(alloc: Global, layer: Vec<Group<M>>) -> Result<Vec<Ou
     Ok(outcomes)
 }
 
-// The landings on the path to the first of some states.
+// Returns the landings on the path to the first of some states.
 fn first_path<M: Machine>(states: Vec<State<M>>) -> Items<Landing>
     requires { 0 < length states.items }
     ensures { result ≡ first_landings states.items }

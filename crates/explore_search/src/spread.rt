@@ -105,7 +105,7 @@ fn land<M: Machine>(
     Ok(None)
 }
 
-// A path with one landing more.
+// Returns a path with one landing more.
 fn longer(alloc: Global, path: &[Landing], landing: Landing) -> Result<Vec<Landing>, AllocError>
     ensures { IfOk result (λ longer. longer.items ≡ path.now ++ landing ∷ []) }
 {
@@ -115,8 +115,8 @@ fn longer(alloc: Global, path: &[Landing], landing: Landing) -> Result<Vec<Landi
     Ok(longer)
 }
 
-// A machine of a state: the one at hand, or a copy of the one that the state keeps, or one that is made anew along the
-// path.
+// Returns a machine of a state: the one at hand, or a copy of the one that the state keeps, or one that is made anew
+// along the path.
 fn machine_of<M: Machine>(
     alloc: Global,
     plan: &Plan,
@@ -139,8 +139,8 @@ fn machine_of<M: Machine>(
     }
 }
 
-// The landings of all pairs and sides at places where a machine has writes in flight, the last place first. Each
-// landing that lands takes a machine, and one at the front of a side always lands: so none is left over.
+// Returns the landings of all pairs and sides at places where a machine has writes in flight, the last place first.
+// Each landing that lands takes a machine, and one at the front of a side always lands: so none is left over.
 fn landings_at<M: Machine>(
     alloc: Global,
     plan: &Plan,

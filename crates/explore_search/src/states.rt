@@ -51,29 +51,29 @@ impl<M: Machine> States<M> {
         }
     }
 
-    /// How many states there are.
+    /// Returns how many states there are.
     pub fn len(&self) -> usize
         ensures { result ≡ length self.now }
     {
         self.list.len()
     }
 
-    /// The states.
+    /// Returns the states.
     pub fn as_slice(&self) -> &[State<M>]
         ensures { result.now ≡ self.now }
     {
         &self.list
     }
 
-    /// The states alone.
+    /// Returns the states alone.
     pub fn into_vec(self) -> Vec<State<M>>
         ensures { result.items ≡ self }
     {
         self.list
     }
 
-    /// The place of the last state with this key, if there is one. The clause `before` says the same of each state: its
-    /// field `before` has the place of the last one before it with its key.
+    /// Returns the place of the last state with this key, if there is one. The clause `before` says the same of each
+    /// state: its field `before` has the place of the last one before it with its key.
     pub fn last_with(&self, key: &Vec<u8>) -> Option<usize>
         ensures last { IsLast self.now key.now.items (length self.now) result }
         ensures before { AreChained self.now }
@@ -149,14 +149,14 @@ pub fn join<M: Machine>(
     states.push(alloc, landings, key, machine)
 }
 
-// The machine, if it is kept.
+// Returns the machine, if it is kept.
 fn kept<M: Machine>(machine: M, is_kept: bool) -> Option<M>
     ensures { IfSome result (λ same. same ≡ machine) }
 {
     if is_kept { Some(machine) } else { None }
 }
 
-// Whether one of the states is that of a machine, which has this key.
+// Returns whether one of the states is that of a machine, which has this key.
 fn is_among<M: Machine>(
     alloc: Global,
     plan: &Plan,
@@ -184,7 +184,7 @@ fn is_among<M: Machine>(
     Ok(false)
 }
 
-// Whether a state is that of a machine, which has this key.
+// Returns whether a state is that of a machine, which has this key.
 fn is_state_of<M: Machine>(
     alloc: Global,
     plan: &Plan,

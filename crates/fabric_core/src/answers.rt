@@ -22,7 +22,7 @@ macro_rules! same_name {
     };
 }
 
-/// A refusal of the link.
+/// Returns a refusal of the link.
 pub fn refusal_answer(refusal: LinkRefusal) -> Answer
     ensures { result ≡ of.of_refusal refusal }
 {
@@ -32,7 +32,7 @@ pub fn refusal_answer(refusal: LinkRefusal) -> Answer
     }
 }
 
-/// A step of the link that was made or refused.
+/// Returns a step of the link that was made or refused.
 pub fn link_answer(made: Result<(), LinkRefusal>) -> Answer
     ensures { result ≡ of.of_link (result_err made) answer.Ok }
 {
@@ -42,14 +42,14 @@ pub fn link_answer(made: Result<(), LinkRefusal>) -> Answer
     }
 }
 
-/// An offer.
+/// Returns an offer.
 pub fn offer_answer(offer: OfferAnswer) -> Answer
     ensures { result ≡ of.of_offer offer }
 {
     same_name!(offer: OfferAnswer; LinkDown, Already, Offered { index })
 }
 
-/// A check.
+/// Returns a check.
 pub fn check_answer(check: CheckAnswer) -> Answer
     ensures { result ≡ of.of_check check }
 {
@@ -60,21 +60,21 @@ pub fn check_answer(check: CheckAnswer) -> Answer
     }
 }
 
-/// A queue that is ready.
+/// Returns a queue that is ready.
 pub fn ready_answer(ready: ReadyAnswer) -> Answer
     ensures { result ≡ of.of_ready ready }
 {
     same_name!(ready: ReadyAnswer; LinkDown, NotChecked, Already, Ok)
 }
 
-/// A queue that is joined.
+/// Returns a queue that is joined.
 pub fn join_answer(join: JoinAnswer) -> Answer
     ensures { result ≡ of.of_join join }
 {
     same_name!(join: JoinAnswer; LinkDown, NotReady, Already, NotYet, Joined)
 }
 
-/// A beginning.
+/// Returns a beginning.
 pub fn begin_answer(begun: BeginAnswer) -> Answer
     ensures { result ≡ of.of_begin begun }
 {
@@ -85,7 +85,7 @@ pub fn begin_answer(begun: BeginAnswer) -> Answer
     }
 }
 
-/// A beginning of a device's frame: a stopped device is refused before the ring's room is tested.
+/// Returns a beginning of a device's frame: a stopped device is refused before the ring's room is tested.
 pub fn xbegin_answer(stopped: bool, begun: BeginAnswer) -> Answer
     ensures { result ≡ of.of_xbegin stopped begun }
 {
@@ -99,14 +99,14 @@ pub fn xbegin_answer(stopped: bool, begun: BeginAnswer) -> Answer
     }
 }
 
-/// A post.
+/// Returns a post.
 pub fn post_answer(posted: Option<Label>) -> Answer
     ensures { result ≡ of.of_post posted }
 {
     posted.map_or(Answer::Idle, |label| Answer::Posted { label })
 }
 
-/// A landing.
+/// Returns a landing.
 pub fn land_answer(landed: LandAnswer<Label>) -> Answer
     ensures { result ≡ of.of_land landed }
 {
@@ -117,7 +117,7 @@ pub fn land_answer(landed: LandAnswer<Label>) -> Answer
     }
 }
 
-/// A look.
+/// Returns a look.
 pub fn look_answer(look: LookAnswer) -> Answer
     ensures { result ≡ of.of_look look }
 {
@@ -127,7 +127,7 @@ pub fn look_answer(look: LookAnswer) -> Answer
     }
 }
 
-/// A copy.
+/// Returns a copy.
 pub fn copy_answer(copy: LaneCopy) -> Answer
     ensures { result ≡ of.of_copy copy }
 {
@@ -138,14 +138,14 @@ pub fn copy_answer(copy: LaneCopy) -> Answer
     }
 }
 
-/// A clear.
+/// Returns a clear.
 pub fn clear_answer(cleared: Option<u64>) -> Answer
     ensures { result ≡ of.of_clear cleared }
 {
     cleared.map_or(Answer::OutOfTurn, |number| Answer::Cleared { number })
 }
 
-/// An ack.
+/// Returns an ack.
 pub fn ack_answer(acked: Option<u64>) -> Answer
     ensures { result ≡ of.of_ack acked }
 {

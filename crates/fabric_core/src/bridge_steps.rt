@@ -187,7 +187,7 @@ fn shown_memory(
     })
 }
 
-// What a side has in flight: how many writes, and the label of one.
+// Returns what a side has in flight: how many writes, and the label of one.
 fn shown_queue(pair: &Pair, side: Side, place: u32) -> Answer
     ensures { result ≡ answer.QueueShown (length (flight_of pair.now side).writes) (option_map (λ (flying : Flying). flying.label) (slice_get (flight_of pair.now side).writes place)) }
 {

@@ -23,21 +23,21 @@ pub fn no_counts() -> Counters
     }
 }
 
-/// Whether one more frame can be counted as sent or refused.
+/// Returns whether one more frame can be counted as sent or refused.
 pub fn can_send(counters: Counters) -> bool
     ensures { IsTrue result ↔ HasRoomToSend counters }
 {
     counters.tx < MOST_COUNT && counters.tx_bytes < MOST_COUNT && counters.refused < MOST_COUNT
 }
 
-/// Whether one more frame can be counted as refused.
+/// Returns whether one more frame can be counted as refused.
 pub fn can_refuse(counters: Counters) -> bool
     ensures { IsTrue result ↔ (counters.refused < most_count) }
 {
     counters.refused < MOST_COUNT
 }
 
-/// Whether one more frame can be counted as delivered.
+/// Returns whether one more frame can be counted as delivered.
 pub fn can_deliver(counters: Counters) -> bool
     ensures { IsTrue result ↔ HasRoomToDeliver counters }
 {

@@ -76,7 +76,7 @@ impl SessionCounts {
         self.has_room = false;
     }
 
-    /// How many frames there were in a session.
+    /// Returns how many frames there were in a session.
     pub fn count_in(&self, session: u32) -> u64
         ensures { result ≡ count_in self.now.counts session }
     {
@@ -88,7 +88,7 @@ impl SessionCounts {
 }
 
 impl SessionCounts {
-    /// Whether there were as many frames in each session.
+    /// Returns whether there were as many frames in each session.
     pub fn is_same(&self, other: &SessionCounts) -> bool
         ensures { IsTrue result ↔ AreSameCounts self.now.counts other.now.counts }
     {
@@ -115,7 +115,7 @@ impl SessionCounts {
         })
     }
 
-    // Whether each session that is counted here has as many frames there.
+    // Returns whether each session that is counted here has as many frames there.
     fn is_in(&self, other: &SessionCounts) -> bool
         ensures { IsTrue result ↔ AreSameWhereCounted self.now.counts other.now.counts }
     {

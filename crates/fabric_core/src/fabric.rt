@@ -32,7 +32,7 @@ pub struct Fabric {
 }
 
 impl Fabric {
-    /// The fabric of a plan before any step. The plan's pairs and devices are ones that a script can declare.
+    /// Returns the fabric of a plan before any step. The plan's pairs and devices are ones that a script can declare.
     ///
     /// # Errors
     ///
@@ -86,9 +86,9 @@ impl Fabric {
         pair.make(&self.devs, step)
     }
 
-    /// The frame that the next copy on a side and a queue delivers, if it delivers one: a frame of its own, and the
-    /// fabric stays as it is. Side and queue are named as the lane on which the side sends there. The pair has to be
-    /// one of the fabric's, and the queue one of the side.
+    /// Returns the frame that the next copy on a side and a queue delivers, if it delivers one: a frame of its own, and
+    /// the fabric stays as it is. Side and queue are named as the lane on which the side sends there. The pair has to
+    /// be one of the fabric's, and the queue one of the side.
     ///
     /// # Errors
     ///
@@ -101,8 +101,8 @@ impl Fabric {
         self.pair(own.pair).frame_due(own.from, own.queue)
     }
 
-    /// How many frames of a lane were accepted and how many delivered in a session, both 0 in a session that wasn't.
-    /// The lane's pair has to be one of the fabric's, and its queue one of both sides.
+    /// Returns how many frames of a lane were accepted and how many delivered in a session, both 0 in a session that
+    /// wasn't. The lane's pair has to be one of the fabric's, and its queue one of both sides.
     pub fn ledger(&self, lane: LaneName, session: u32) -> (u64, u64)
         requires sent { IsQueueOf (plan_kept self.now) lane.pair lane.from lane.queue }
         requires received { IsQueueOf (plan_kept self.now) lane.pair (other_side lane.from) lane.queue }
@@ -123,7 +123,7 @@ impl Fabric {
         self.pair(pair).session()
     }
 
-    /// What is counted of a device, which has to be one of the fabric's.
+    /// Returns what is counted of a device, which has to be one of the fabric's.
     pub fn counters(&self, dev: u32) -> Counters
         requires { dev < length (plan_kept self.now).devs }
         ensures { AreCounters self.now dev result }
@@ -133,7 +133,7 @@ impl Fabric {
             .counters()
     }
 
-    /// The devices, in the order of the plan.
+    /// Returns the devices, in the order of the plan.
     pub fn devices(&self) -> &[DevPlan]
         ensures { result.now ≡ self.now.devs }
     {
@@ -158,7 +158,7 @@ impl Fabric {
 }
 
 impl Fabric {
-    /// Whether no step can tell two fabrics apart, which have to be of the same pairs and devices. Left out are
+    /// Returns whether no step can tell two fabrics apart, which have to be of the same pairs and devices. Left out are
     /// promised room and pages, and what a queue keeps of a frame that it has posted whole.
     ///
     /// If the answer is `true`, whatever steps the one represents, so does the other. If both represent one list of
@@ -171,9 +171,9 @@ impl Fabric {
         are_same_pairs(&self.pairs, &other.pairs)
     }
 
-    /// Whether the write that a side of a pair has in flight at this place may land, and no step can then tell the
-    /// fabric apart from another. [`Fabric::is_same`] says what no step can tell apart. The pair has to be one of the
-    /// fabric's, and both fabrics have to be of the same pairs and devices.
+    /// Returns whether the write that a side of a pair has in flight at this place may land, and no step can then tell
+    /// the fabric apart from another. [`Fabric::is_same`] says what no step can tell apart. The pair has to be one of
+    /// the fabric's, and both fabrics have to be of the same pairs and devices.
     ///
     /// If the answer is `true`, the other represents whatever steps this one represents and the landing after them. If
     /// it represents such a list, and the landing is answered `landed`, the answer is `true`. It is found out without
@@ -188,7 +188,7 @@ impl Fabric {
             && are_same_but(&self.pairs, &other.pairs, pair as usize)
     }
 
-    /// A fabric in the same state, with the same promises. It represents whatever steps this one represents.
+    /// Returns a fabric in the same state, with the same promises. It represents whatever steps this one represents.
     ///
     /// # Errors
     ///
@@ -202,8 +202,8 @@ impl Fabric {
         })
     }
 
-    /// How many writes a side of a pair has in flight. The pair has to be one of the fabric's. A `land` of that side at
-    /// this place, or at a later one, is answered `nothing`.
+    /// Returns how many writes a side of a pair has in flight. The pair has to be one of the fabric's. A `land` of that
+    /// side at this place, or at a later one, is answered `nothing`.
     pub fn in_flight(&self, pair: u32, side: Side) -> usize
         requires { IsPairOf (plan_kept self.now) pair }
         ensures count { result ≡ length (flight_of (pair_of self.now pair).bridge side).writes }
@@ -259,7 +259,7 @@ impl Model for Fabric {
     ghost invariant = { IsFabric };
 }
 
-// Whether no step can tell pairs apart, which are of the same plans.
+// Returns whether no step can tell pairs apart, which are of the same plans.
 fn are_same_pairs(pairs: &[PairBox], others: &[PairBox]) -> bool
     requires { map plan_at pairs.now ≡ map plan_at others.now }
     ensures { IsTrue result ↔ AreSamePairs pairs.now others.now }
@@ -272,7 +272,7 @@ fn are_same_pairs(pairs: &[PairBox], others: &[PairBox]) -> bool
     true
 }
 
-// Whether no step can tell pairs apart, which are of the same plans, but for one of them.
+// Returns whether no step can tell pairs apart, which are of the same plans, but for one of them.
 fn are_same_but(pairs: &[PairBox], others: &[PairBox], but: usize) -> bool
     requires { map plan_at pairs.now ≡ map plan_at others.now }
     ensures { IsTrue result ↔ AreSameBut pairs.now others.now but }
@@ -295,7 +295,7 @@ fn push_keys(key: &mut Vec<u8>, pairs: &[PairBox]) -> Result<(), AllocError>
     Ok(())
 }
 
-// The same pairs.
+// Returns the same pairs.
 fn pair_copies(alloc: Global, pairs: &[PairBox]) -> Result<Vec<PairBox>, AllocError>
     ensures { IfOk result (λ copies. copies.items ≡ pairs.now) }
 {
@@ -306,7 +306,7 @@ fn pair_copies(alloc: Global, pairs: &[PairBox]) -> Result<Vec<PairBox>, AllocEr
     Ok(copies)
 }
 
-// The same devices.
+// Returns the same devices.
 fn copies(alloc: Global, devs: &[DevPlan]) -> Result<Vec<DevPlan>, AllocError>
     ensures { IfOk result (λ copies. copies.items ≡ devs.now) }
 {
@@ -317,7 +317,7 @@ fn copies(alloc: Global, devs: &[DevPlan]) -> Result<Vec<DevPlan>, AllocError>
     Ok(copies)
 }
 
-// The same device.
+// Returns the same device.
 fn copy_of(dev: &DevPlan) -> DevPlan
     ensures { result ≡ dev.now }
 {

@@ -42,7 +42,7 @@ pub fn push_flight_without(
     key.extend_from_slice(&[0])
 }
 
-// What a label is, and up to three of its numbers, each modulo 256.
+// Returns what a label is, and up to three of its numbers, each modulo 256.
 fn label_key(label: Label) -> [u8; 4]
     ensures { result ≡ key_of_label label }
 {
@@ -77,7 +77,7 @@ fn label_key(label: Label) -> [u8; 4]
     }
 }
 
-// The low byte of a number.
+// Returns the low byte of a number.
 fn low_byte(number: u64) -> u8
     ensures { result ≡ byte_of number }
 {

@@ -41,7 +41,7 @@ pub struct PairBox {
 }
 
 impl PairBox {
-    /// A pair before any step, with the limits of the devices on its queues. No two devices are on one queue.
+    /// Returns a pair before any step, with the limits of the devices on its queues. No two devices are on one queue.
     ///
     /// # Errors
     ///
@@ -118,7 +118,7 @@ impl PairBox {
         }
     }
 
-    // A side forgets the session that was lost, and its queues with it.
+    // Returns a side forgets the session that was lost, and its queues with it.
     fn clean(&mut self, side: Side) -> Answer
         ensures answer { result ≡ (clean_move self.old side).answer }
         ensures after { plain_pair self.new ≡ plain_pair (clean_move self.old side).after }
@@ -135,7 +135,7 @@ impl PairBox {
         }
     }
 
-    /// The number of the pair's session, 0 before the first.
+    /// Returns the number of the pair's session, 0 before the first.
     pub fn session(&self) -> u32
         ensures { result ≡ self.now.bridge.link.session }
     {
@@ -155,7 +155,7 @@ impl PairBox {
 }
 
 impl PairBox {
-    /// The frame that the next copy on one of a side's queues delivers, if it delivers one: a frame of its own.
+    /// Returns the frame that the next copy on one of a side's queues delivers, if it delivers one: a frame of its own.
     ///
     /// # Errors
     ///
@@ -169,7 +169,8 @@ impl PairBox {
 }
 
 impl PairBox {
-    /// Whether no step can tell two pairs of one plan apart, by their bridges and all queues. It takes no memory.
+    /// Returns whether no step can tell two pairs of one plan apart, by their bridges and all queues. It takes no
+    /// memory.
     pub fn is_same(&self, other: &PairBox) -> bool
         requires { self.now.bridge.plan ≡ other.now.bridge.plan }
         ensures { IsTrue result ↔ IsSamePair self.now other.now }
@@ -177,8 +178,8 @@ impl PairBox {
         self.pair.is_same(&other.pair) && self.has_same_queues(other)
     }
 
-    /// Whether the write at this place of those that a side has in flight may land, and no step can then tell the pair
-    /// apart from another of its plan. It is found out without landing the write, and takes no memory.
+    /// Returns whether the write at this place of those that a side has in flight may land, and no step can then tell
+    /// the pair apart from another of its plan. It is found out without landing the write, and takes no memory.
     pub fn lands_as(&self, side: Side, place: usize, other: &PairBox) -> bool
         requires { self.now.bridge.plan ≡ other.now.bridge.plan }
         ensures { IsTrue result ↔ LandsAsPair self.now side place other.now }
@@ -186,7 +187,7 @@ impl PairBox {
         self.pair.lands_as(side, place, &other.pair) && self.has_same_queues(other)
     }
 
-    // Whether no step can tell the queues of both sides apart.
+    // Returns whether no step can tell the queues of both sides apart.
     fn has_same_queues(&self, other: &PairBox) -> bool
         requires { self.now.bridge.plan ≡ other.now.bridge.plan }
         ensures { IsTrue result ↔ HasSameQueues self.now other.now }
@@ -195,7 +196,7 @@ impl PairBox {
             && are_same_queues(&self.queues_b, &other.queues_b)
     }
 
-    /// A pair in the same state, with the same promises.
+    /// Returns a pair in the same state, with the same promises.
     ///
     /// # Errors
     ///
@@ -211,7 +212,7 @@ impl PairBox {
         })
     }
 
-    /// How many writes a side has in flight.
+    /// Returns how many writes a side has in flight.
     pub fn in_flight(&self, side: Side) -> usize
         ensures { result ≡ length (flight_of self.now.bridge side).writes }
     {
@@ -292,7 +293,7 @@ fn make_at(
     part.make(pair, alloc, devs, step)
 }
 
-// Whether no step can tell the queues of two sides apart, which are of one plan and side.
+// Returns whether no step can tell the queues of two sides apart, which are of one plan and side.
 fn are_same_queues(queues: &[QueueBox], others: &[QueueBox]) -> bool
     requires { AreOfOneSide queues.now others.now }
     ensures { IsTrue result ↔ AreSameParts queues.now others.now }
@@ -305,7 +306,7 @@ fn are_same_queues(queues: &[QueueBox], others: &[QueueBox]) -> bool
     true
 }
 
-// The same queues.
+// Returns the same queues.
 fn queue_copies(alloc: Global, queues: &[QueueBox]) -> Result<Vec<QueueBox>, AllocError>
     ensures { IfOk result (λ copies. copies.items ≡ queues.now) }
 {
@@ -329,7 +330,7 @@ fn forget_all(pair: &mut Pair, queues: &mut Vec<QueueBox>, side: Side)
     }
 }
 
-// The queues of a side before any step.
+// Returns the queues of a side before any step.
 fn fresh_queues(
     alloc: Global,
     devs: &[DevPlan],
@@ -349,7 +350,7 @@ fn fresh_queues(
     Ok(queues)
 }
 
-// The limits of the device on a queue, where there is one.
+// Returns the limits of the device on a queue, where there is one.
 fn limits_on(devs: &[DevPlan], k: u32, side: Side, queue: u32) -> (u32, u32)
     requires { AreAlone devs.now k }
     ensures { AreLimitsOn devs.now k side queue result.0 result.1 }

@@ -43,7 +43,7 @@ pub struct QueueBox {
 }
 
 impl QueueBox {
-    /// A queue before any step, with the limits of the device on it. It takes no memory yet.
+    /// Returns a queue before any step, with the limits of the device on it. It takes no memory yet.
     pub fn new(
         alloc: Global,
         plan: &PairPlan,
@@ -159,7 +159,7 @@ impl QueueBox {
         self.refuse(answer)
     }
 
-    // What a device's frame of this many bytes is answered. It takes no memory.
+    // Returns what a device's frame of this many bytes is answered. It takes no memory.
     fn frame_answer(&self, pair: &Pair, len: u32) -> Answer
         requires ready { CanBegin self.now.queue pair.now }
         requires few { len ≤ most_frame_bytes }
@@ -272,7 +272,7 @@ impl QueueBox {
         copy_answer(copy)
     }
 
-    /// The frame that the next copy delivers, if it delivers one: a frame of its own.
+    /// Returns the frame that the next copy delivers, if it delivers one: a frame of its own.
     ///
     /// # Errors
     ///
@@ -338,21 +338,21 @@ impl QueueBox {
         self.flow.reset();
     }
 
-    /// How many frames of a session were accepted on the lane that the side sends on the queue.
+    /// Returns how many frames of a session were accepted on the lane that the side sends on the queue.
     pub fn accepted_in(&self, session: u32) -> u64
         ensures { result ≡ count_in self.now.accepted session }
     {
         self.accepted.count_in(session)
     }
 
-    /// How many frames of a session were delivered on the lane that the side receives on the queue.
+    /// Returns how many frames of a session were delivered on the lane that the side receives on the queue.
     pub fn delivered_in(&self, session: u32) -> u64
         ensures { result ≡ count_in self.now.delivered session }
     {
         self.delivered.count_in(session)
     }
 
-    /// What is counted of the device on the queue.
+    /// Returns what is counted of the device on the queue.
     pub fn counters(&self) -> Counters
         ensures { result ≡ self.now.counters }
     {
@@ -361,8 +361,9 @@ impl QueueBox {
 }
 
 impl QueueBox {
-    /// Whether no step can tell two queues apart, which have to be of one plan, side and number. Their queue pairs are
-    /// compared, whether a device is stopped, its counters, and the frames of each session. It takes no memory.
+    /// Returns whether no step can tell two queues apart, which have to be of one plan, side and number. Their queue
+    /// pairs are compared, whether a device is stopped, its counters, and the frames of each session. It takes no
+    /// memory.
     pub fn is_same(&self, other: &QueueBox) -> bool
         requires { AreOfOnePlace self.now other.now }
         ensures { IsTrue result ↔ IsSamePart self.now other.now }
@@ -374,7 +375,7 @@ impl QueueBox {
             && self.delivered.is_same(&other.delivered)
     }
 
-    /// A queue in the same state, with as much room for the frames that it counts.
+    /// Returns a queue in the same state, with as much room for the frames that it counts.
     ///
     /// # Errors
     ///

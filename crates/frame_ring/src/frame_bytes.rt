@@ -32,7 +32,7 @@ impl Gathered {
         }
     }
 
-    /// The same bytes gathered, with as much room.
+    /// Returns the same bytes gathered, with as much room.
     ///
     /// # Errors
     ///
@@ -47,7 +47,7 @@ impl Gathered {
         })
     }
 
-    /// How many bytes were gathered.
+    /// Returns how many bytes were gathered.
     pub fn len(&self) -> u32
         ensures value { result ≡ length self.now.bytes }
         ensures few { result ≤ most_frame_bytes }
@@ -55,7 +55,7 @@ impl Gathered {
         self.filled as u32
     }
 
-    /// Whether the same bytes were gathered, whatever room there is.
+    /// Returns whether the same bytes were gathered, whatever room there is.
     pub fn is_same(&self, other: &Gathered) -> bool
         ensures { IsTrue result ↔ (self.now.bytes ≡ other.now.bytes) }
     {
@@ -82,7 +82,7 @@ impl Gathered {
         self.filled = end;
     }
 
-    /// The frame of all bytes gathered, where no room is left for more.
+    /// Returns the frame of all bytes gathered, where no room is left for more.
     pub fn deliver(&mut self) -> Frame
         requires { self.old.room ≡ 0 }
         ensures frame { result ≡ self.old.bytes }

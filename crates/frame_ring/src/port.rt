@@ -52,8 +52,8 @@ impl Port {
     ghost use Rattle.frame_ring.specs.PortView.{FitsRings, HasPagesIn, HasRoomIn, TouchesLeft, TouchesWrite};
     ghost use Rattle.frame_ring.specs.Same.{IsSamePort};
 
-    /// The port of one of a side's queues, with nothing sent and nothing received. The plan has to be one that a script
-    /// can declare, and the port has a copy of it. It takes no memory yet.
+    /// Returns the port of one of a side's queues, with nothing sent and nothing received. The plan has to be one that
+    /// a script can declare, and the port has a copy of it. It takes no memory yet.
     pub fn new(alloc: Global, plan: &PairPlan, side: Side, queue: u32) -> Port
         requires declared { IsPair plan.now }
         requires among { queue < (side_plan_of plan.now side).queues }
@@ -224,8 +224,8 @@ impl Port {
         self.receiver.copy(pair, side, at)
     }
 
-    /// The frame that the next [`Port::copy`] delivers, if it delivers one: a frame of its own, which leaves the port
-    /// as it is.
+    /// Returns the frame that the next [`Port::copy`] delivers, if it delivers one: a frame of its own, which leaves
+    /// the port as it is.
     ///
     /// # Errors
     ///
@@ -276,14 +276,14 @@ impl Port {
         Some(number)
     }
 
-    /// The side whose queue this is.
+    /// Returns the side whose queue this is.
     pub fn side(&self) -> Side
         ensures { result ≡ self.now.side }
     {
         self.rings.side()
     }
 
-    /// The queue's number, from 0, which is one of the side's.
+    /// Returns the queue's number, from 0, which is one of the side's.
     pub fn queue(&self) -> u32
         ensures value { result ≡ self.now.queue }
         ensures few { result < 16 }
@@ -291,9 +291,9 @@ impl Port {
         self.rings.queue()
     }
 
-    /// Whether two ports of one queue are in the same state, so that no later call tells them apart. Compared are the
-    /// counts, all that is left to post with the entries that it is of, and where the receiver stands with the bytes
-    /// copied so far. Of a frame that was posted whole nothing is compared. Both have to be of one plan, side and
+    /// Returns whether two ports of one queue are in the same state, so that no later call tells them apart. Compared
+    /// are the counts, all that is left to post with the entries that it is of, and where the receiver stands with the
+    /// bytes copied so far. Of a frame that was posted whole nothing is compared. Both have to be of one plan, side and
     /// queue. It takes no memory.
     pub fn is_same(&self, other: &Port) -> bool
         requires plan { self.now.plan ≡ other.now.plan }
@@ -304,7 +304,7 @@ impl Port {
         self.sender.is_same(&other.sender) && self.receiver.is_same(&other.receiver)
     }
 
-    /// A port in the same state.
+    /// Returns a port in the same state.
     ///
     /// # Errors
     ///
@@ -319,8 +319,8 @@ impl Port {
         })
     }
 
-    /// What [`Port::begin`] answers for a frame of `len` bytes, at most 65,536, unless out of memory. It takes no
-    /// memory.
+    /// Returns what [`Port::begin`] answers for a frame of `len` bytes, at most 65,536, unless out of memory. It takes
+    /// no memory.
     pub fn begin_answer(&self, pair: &Pair, len: u32) -> Begun
         requires plan { pair.now.plan ≡ self.now.plan }
         requires fits { FitsRings self.now.plan }
@@ -338,7 +338,7 @@ impl Port {
         self.room_answer(pair, pieces_in(largest, len))
     }
 
-    /// What [`Port::look`] answers, unless out of memory. It takes no memory.
+    /// Returns what [`Port::look`] answers, unless out of memory. It takes no memory.
     pub fn look_answer(&self, pair: &Pair) -> RingLook
         requires plan { pair.now.plan ≡ self.now.plan }
         requires fits { FitsRings self.now.plan }
@@ -351,8 +351,8 @@ impl Port {
         self.receiver.sight(&self.rings, &words)
     }
 
-    /// Whether [`Port::begin`] would answer [`Begun::TooLong`] or [`Begun::Busy`] for a frame of `len` bytes, 1 to
-    /// 65,536, whatever room there is. It takes no memory.
+    /// Returns whether [`Port::begin`] would answer [`Begun::TooLong`] or [`Begun::Busy`] for a frame of `len` bytes, 1
+    /// to 65,536, whatever room there is. It takes no memory.
     pub fn refuses(&self, len: u32) -> bool
         requires some { 0 < len }
         requires most { len ≤ most_frame_bytes }
@@ -361,8 +361,8 @@ impl Port {
         self.rings.most_sent() < len || self.sender.is_busy()
     }
 
-    /// The free entries of the ring that the port sends to, by the index word in the side's memory. There are 0 where
-    /// that word names no slot of the ring, and where it doesn't lie wholly in the memory. It takes no memory.
+    /// Returns the free entries of the ring that the port sends to, by the index word in the side's memory. There are 0
+    /// where that word names no slot of the ring, and where it doesn't lie wholly in the memory. It takes no memory.
     pub fn free(&self, pair: &Pair) -> u32
         requires { pair.now.plan ≡ self.now.plan }
         ensures { result ≡ free_answer self.now pair.now }
@@ -388,7 +388,7 @@ impl Port {
         self.receiver.reset();
     }
 
-    // How many promises of room are unused.
+    // Returns how many promises of room are unused.
     fn unused(&self) -> usize
         ensures { result ≡ unused_of self.now }
     {
@@ -399,7 +399,7 @@ impl Port {
         self.sender.left() + found
     }
 
-    // What a going down answers, unless out of memory.
+    // Returns what a going down answers, unless out of memory.
     fn down_answer(&self, pair: &Pair) -> Begun
         requires plan { pair.now.plan ≡ self.now.plan }
         requires fit { SizesFit self.now.plan }
@@ -411,7 +411,7 @@ impl Port {
         self.room_answer(pair, 1)
     }
 
-    // What is answered where this many entries are wanted.
+    // Returns what is answered where this many entries are wanted.
     fn room_answer(&self, pair: &Pair, needed: u32) -> Begun
         requires plan { pair.now.plan ≡ self.now.plan }
         requires fit { SizesFit self.now.plan }

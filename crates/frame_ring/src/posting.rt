@@ -26,7 +26,7 @@ use plan_numbers::side_plan;
 use ring_geometry::ver_of;
 use step_kinds::Label;
 
-/// Whether the peer has the window that the side sends through on the queue.
+/// Returns whether the peer has the window that the side sends through on the queue.
 pub fn reaches(rings: &QueueRings) -> bool
     ensures { result ≡ reaches_by rings.now.plan rings.now.side (window_of (layout_of rings.now.plan rings.now.side rings.now.queue)) }
 {
@@ -65,7 +65,7 @@ fn post_word(rings: &QueueRings, pair: &mut Pair, label: Label, offset: u64, val
     post_bytes(rings, pair, label, offset, &value.to_le_bytes());
 }
 
-/// The offset of the slot to which the side sends entry `n`.
+/// Returns the offset of the slot to which the side sends entry `n`.
 pub fn slot_offset_of(rings: &QueueRings, n: u64) -> u64
     ensures value { result ≡ slot_offset rings.now.plan rings.now.side rings.now.queue n }
     ensures within { result + (sizes_of rings.now.plan rings.now.side rings.now.queue).largest ≤ (side_plan_of rings.now.plan rings.now.side).size }
@@ -75,7 +75,7 @@ pub fn slot_offset_of(rings: &QueueRings, n: u64) -> u64
     out.slot_at(slot_in(out, n))
 }
 
-/// The offset of the header of the slot to which the side sends entry `n`.
+/// Returns the offset of the header of the slot to which the side sends entry `n`.
 pub fn header_offset_of(rings: &QueueRings, n: u64) -> u64
     ensures value { result ≡ header_offset rings.now.plan rings.now.side rings.now.queue n }
     ensures within { result + bytes_of_header rings.now.plan ≤ (side_plan_of rings.now.plan rings.now.side).size }
@@ -93,7 +93,7 @@ fn len_offset(rings: &QueueRings) -> u64
     if rings.speaks_five() { 8 } else { 4 }
 }
 
-// A chunk of a payload.
+// Returns a chunk of a payload.
 fn chunk_at(payload: &[u8], part: u32) -> &[u8]
     requires among { part < chunks_in (length payload.now) }
     requires fits { length payload.now ≤ most_frame_bytes }

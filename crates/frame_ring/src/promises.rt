@@ -107,7 +107,7 @@ impl QueueRings {
     }
 }
 
-/// How many writes the entries of a frame take.
+/// Returns how many writes the entries of a frame take.
 pub fn count_writes(frame: &Frame, largest: u32) -> usize
     requires some { 4 ≤ largest }
     requires few { largest ≤ most_frame_bytes }

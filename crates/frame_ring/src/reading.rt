@@ -24,7 +24,7 @@ pub struct HeaderWords {
     pub flags: u32,
 }
 
-// The address of a place in the window of the ring in which the side receives.
+// Returns the address of a place in the window of the ring in which the side receives.
 fn received_at(rings: &QueueRings, offset: u64) -> u64
     requires fit { SizesFit rings.now.plan }
     requires offset { offset ≤ (side_plan_of rings.now.plan rings.now.side).cap }
@@ -35,7 +35,7 @@ fn received_at(rings: &QueueRings, offset: u64) -> u64
     own_address(rings.plan(), rings.side(), rings.into_window(), offset)
 }
 
-/// The address of the header of the slot in which the side receives entry `n`.
+/// Returns the address of the header of the slot in which the side receives entry `n`.
 pub fn header_at(rings: &QueueRings, n: u64) -> u64
     requires { SizesFit rings.now.plan }
     ensures value { result ≡ own_header rings.now.plan rings.now.side rings.now.queue n }
@@ -46,7 +46,7 @@ pub fn header_at(rings: &QueueRings, n: u64) -> u64
     received_at(rings, into.header_at(slot_in(into, n)))
 }
 
-/// The address of the slot in which the side receives entry `n`.
+/// Returns the address of the slot in which the side receives entry `n`.
 pub fn slot_at(rings: &QueueRings, n: u64) -> u64
     requires { SizesFit rings.now.plan }
     ensures value { result ≡ own_slot rings.now.plan rings.now.side rings.now.queue n }
@@ -65,7 +65,7 @@ pub fn flags_offset(rings: &QueueRings) -> u64
     if rings.speaks_five() { 12 } else { 8 }
 }
 
-// A word of the side's memory.
+// Returns a word of the side's memory.
 fn word(rings: &QueueRings, pair: &Pair, at: u64) -> u32
     requires plan { pair.now.plan ≡ rings.now.plan }
     requires within { at + 4 ≤ memory_size rings.now.plan rings.now.side }
@@ -75,7 +75,7 @@ fn word(rings: &QueueRings, pair: &Pair, at: u64) -> u32
     pair.local_word(rings.side(), at)
 }
 
-/// The header of the slot in which the side receives entry `n`.
+/// Returns the header of the slot in which the side receives entry `n`.
 pub fn header(rings: &QueueRings, pair: &Pair, n: u64) -> HeaderWords
     requires plan { pair.now.plan ≡ rings.now.plan }
     requires fit { SizesFit rings.now.plan }
@@ -99,7 +99,7 @@ pub fn header(rings: &QueueRings, pair: &Pair, n: u64) -> HeaderWords
     }
 }
 
-/// How many entries of its frame follow entry `n`, by the header of its slot: on version 4 none.
+/// Returns how many entries of its frame follow entry `n`, by the header of its slot: on version 4 none.
 pub fn followers(rings: &QueueRings, pair: &Pair, n: u64) -> u32
     requires plan { pair.now.plan ≡ rings.now.plan }
     requires fit { SizesFit rings.now.plan }
@@ -112,7 +112,7 @@ pub fn followers(rings: &QueueRings, pair: &Pair, n: u64) -> u32
     }
 }
 
-/// The address of the index word of the lane that the side sends, which needn't lie in the side's memory.
+/// Returns the address of the index word of the lane that the side sends, which needn't lie in the side's memory.
 pub fn index_word_at(rings: &QueueRings) -> u64
     ensures value { result ≡ own_index_word rings.now.plan rings.now.side rings.now.queue }
     ensures small { result < address_limit }
@@ -122,7 +122,7 @@ pub fn index_word_at(rings: &QueueRings) -> u64
     u64::from(rings.into_window()) * cap + into.index_at()
 }
 
-/// Whether the index word lies wholly in the side's memory.
+/// Returns whether the index word lies wholly in the side's memory.
 pub fn has_index_word(rings: &QueueRings) -> bool
     ensures { result ≡ nat_le (own_index_word rings.now.plan rings.now.side rings.now.queue + 4) (memory_size rings.now.plan rings.now.side) }
 {
@@ -130,7 +130,7 @@ pub fn has_index_word(rings: &QueueRings) -> bool
     index_word_at(rings) + 4 <= memory_bytes(rings.plan(), rings.side())
 }
 
-/// The index word of the lane that the side sends, which has to lie wholly in the side's memory.
+/// Returns the index word of the lane that the side sends, which has to lie wholly in the side's memory.
 pub fn index_word(rings: &QueueRings, pair: &Pair) -> u32
     requires plan { pair.now.plan ≡ rings.now.plan }
     requires within { own_index_word rings.now.plan rings.now.side rings.now.queue + 4 ≤ memory_size rings.now.plan rings.now.side }
@@ -139,7 +139,8 @@ pub fn index_word(rings: &QueueRings, pair: &Pair) -> u32
     word(rings, pair, index_word_at(rings))
 }
 
-/// The index word of the lane that the side sends, where the sides' windows fit, so that it lies in the side's memory.
+/// Returns the index word of the lane that the side sends, where the sides' windows fit, so that it lies in the side's
+/// memory.
 pub fn tail(rings: &QueueRings, pair: &Pair) -> u32
     requires plan { pair.now.plan ≡ rings.now.plan }
     requires fit { SizesFit rings.now.plan }
@@ -148,7 +149,7 @@ pub fn tail(rings: &QueueRings, pair: &Pair) -> u32
     word(rings, pair, received_at(rings, rings.into().index_at()))
 }
 
-/// The free entries of the ring that the side sends to, by the slot of its next entry and an index word.
+/// Returns the free entries of the ring that the side sends to, by the slot of its next entry and an index word.
 pub fn free_by(rings: &QueueRings, head: u32, index_word: u32) -> u32
     requires { head < (sizes_of rings.now.plan rings.now.side rings.now.queue).entries }
     ensures value { result ≡ free_in_memory (sizes_of rings.now.plan rings.now.side rings.now.queue).entries head index_word }

@@ -42,7 +42,7 @@ pub struct Receiver {
 }
 
 impl Receiver {
-    /// A receiver that has found nothing.
+    /// Returns a receiver that has found nothing.
     pub fn new(alloc: Global) -> Receiver
         ensures { result ≡ nothing_received }
     {
@@ -57,7 +57,7 @@ impl Receiver {
         }
     }
 
-    /// A receiver at the same place of the same bytes.
+    /// Returns a receiver at the same place of the same bytes.
     ///
     /// # Errors
     ///
@@ -76,7 +76,7 @@ impl Receiver {
         })
     }
 
-    /// Whether two receivers stand at the same place of the same bytes.
+    /// Returns whether two receivers stand at the same place of the same bytes.
     pub fn is_same(&self, other: &Receiver) -> bool
         ensures { IsTrue result ↔ (self.now ≡ other.now) }
     {
@@ -89,7 +89,7 @@ impl Receiver {
             && self.gathered.is_same(&other.gathered)
     }
 
-    /// How many entries were taken whole.
+    /// Returns how many entries were taken whole.
     pub fn got(&self) -> u64
         ensures value { result ≡ self.now.got }
         ensures few { result ≤ most_numbers }
@@ -97,7 +97,7 @@ impl Receiver {
         self.got
     }
 
-    /// The entry that was taken last.
+    /// Returns the entry that was taken last.
     pub fn last_got(&self) -> u64
         ensures { result ≡ last_got self.now }
     {
@@ -120,7 +120,7 @@ impl Receiver {
         u64::from(CHUNK_SIZE) * u64::from(self.part)
     }
 
-    /// What a header says to the receiver.
+    /// Returns what a header says to the receiver.
     pub fn sight(&self, rings: &QueueRings, header: &HeaderWords) -> RingLook
         ensures value { result ≡ look_found self.now (found_with (sizes_in rings.now.plan (layout_to rings.now.plan rings.now.side rings.now.queue)) self.now.got (length self.now.gathered) (header_of header.now)) }
         ensures few { (number len : ℕ) → result ≡ Ready number len → length self.now.gathered + len ≤ most_frame_bytes }
@@ -210,8 +210,8 @@ impl Receiver {
         }
     }
 
-    /// The frame that the next copy delivers, if it delivers one: a frame of its own, and what was gathered stays. The
-    /// next part of the entry at hand stands at this address of the side's memory.
+    /// Returns the frame that the next copy delivers, if it delivers one: a frame of its own, and what was gathered
+    /// stays. The next part of the entry at hand stands at this address of the side's memory.
     ///
     /// # Errors
     ///

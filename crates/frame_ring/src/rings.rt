@@ -35,7 +35,7 @@ pub struct QueueRings {
 impl QueueRings {
     ghost use Rattle.frame_ring.specs.Rings.{QueueOf};
 
-    /// The rings of one of a side's queues, by a copy of the plan. It takes no memory.
+    /// Returns the rings of one of a side's queues, by a copy of the plan. It takes no memory.
     pub fn new(plan: &PairPlan, side: Side, queue: u32) -> QueueRings
         requires declared { IsPair plan.now }
         requires among { queue < (side_plan_of plan.now side).queues }
@@ -54,7 +54,7 @@ impl QueueRings {
         }
     }
 
-    /// The rings of the same queue. It takes no memory.
+    /// Returns the rings of the same queue. It takes no memory.
     pub fn copy_of(&self) -> QueueRings
         ensures { result ≡ self.now }
     {
@@ -78,7 +78,7 @@ impl QueueRings {
         let _side = self.side();
     }
 
-    /// The side, of a queue that it has.
+    /// Returns the side, of a queue that it has.
     pub fn side(&self) -> Side
         ensures value { result ≡ self.now.side }
         ensures law { IsQueueOf self.now }
@@ -86,7 +86,7 @@ impl QueueRings {
         self.side
     }
 
-    /// The number of the queue.
+    /// Returns the number of the queue.
     pub fn queue(&self) -> u32
         ensures value { result ≡ self.now.queue }
         ensures few { result < 16 }
@@ -94,14 +94,14 @@ impl QueueRings {
         self.queue
     }
 
-    /// The plan of the pair.
+    /// Returns the plan of the pair.
     pub fn plan(&self) -> &PairPlan
         ensures { result.now ≡ self.now.plan }
     {
         &self.plan
     }
 
-    /// The ring that the side sends to.
+    /// Returns the ring that the side sends to.
     pub fn out(&self) -> &Geometry
         ensures value { result.now ≡ layout_of self.now.plan self.now.side self.now.queue }
         ensures placed { IsPlaced result.now }
@@ -110,7 +110,7 @@ impl QueueRings {
         &self.out
     }
 
-    /// The ring that the side receives in.
+    /// Returns the ring that the side receives in.
     pub fn into(&self) -> &Geometry
         ensures value { result.now ≡ layout_to self.now.plan self.now.side self.now.queue }
         ensures placed { IsPlaced result.now }
@@ -119,7 +119,7 @@ impl QueueRings {
         &self.into
     }
 
-    /// The number of the window in which the side sends.
+    /// Returns the number of the window in which the side sends.
     #[inline]
     pub fn out_window(&self) -> u32
         ensures { result ≡ window_of (layout_of self.now.plan self.now.side self.now.queue) }
@@ -127,7 +127,7 @@ impl QueueRings {
         self.out_window
     }
 
-    /// The number of the window in which it receives.
+    /// Returns the number of the window in which it receives.
     #[inline]
     pub fn into_window(&self) -> u32
         ensures { result ≡ window_of (layout_to self.now.plan self.now.side self.now.queue) }
@@ -135,14 +135,14 @@ impl QueueRings {
         self.into_window
     }
 
-    /// Whether the pair speaks version 5.
+    /// Returns whether the pair speaks version 5.
     pub fn speaks_five(&self) -> bool
         ensures { result ≡ (agreed_version self.now.plan == 5) }
     {
         speaks_five(&self.plan)
     }
 
-    /// The most bytes of a frame that is sent.
+    /// Returns the most bytes of a frame that is sent.
     pub fn most_sent(&self) -> u32
         ensures value { result ≡ (sizes_of self.now.plan self.now.side self.now.queue).most }
         ensures few { result ≤ most_frame_bytes }
@@ -154,7 +154,7 @@ impl QueueRings {
         }
     }
 
-    /// The most bytes of a frame that is received.
+    /// Returns the most bytes of a frame that is received.
     pub fn most_received(&self) -> u32
         ensures value { result ≡ (sizes_in self.now.plan (layout_to self.now.plan self.now.side self.now.queue)).most }
         ensures few { result ≤ most_frame_bytes }
@@ -193,7 +193,7 @@ fn ring_is_placed(ring: &Geometry)
     let _entries = ring.entries();
 }
 
-/// The slot of a ring for entry `n`.
+/// Returns the slot of a ring for entry `n`.
 pub fn slot_in(ring: &Geometry, n: u64) -> u32
     ensures value { result ≡ n % entries_of ring.now }
     ensures within { result < entries_of ring.now }

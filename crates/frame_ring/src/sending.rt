@@ -32,7 +32,7 @@ pub struct Sender {
 }
 
 impl Sender {
-    /// A sender that has sent nothing.
+    /// Returns a sender that has sent nothing.
     pub fn new(queue: u32, largest: u32) -> Sender
         requires some { 4 ≤ largest }
         requires few { largest ≤ most_frame_bytes }
@@ -51,7 +51,7 @@ impl Sender {
         }
     }
 
-    /// A sender that has sent the same, with the same left to post.
+    /// Returns a sender that has sent the same, with the same left to post.
     ///
     /// # Errors
     ///
@@ -76,7 +76,7 @@ impl Sender {
         })
     }
 
-    /// How many entries were begun, those that wait with them.
+    /// Returns how many entries were begun, those that wait with them.
     pub fn begun(&self) -> u64
         ensures value { result ≡ self.now.sending.begun + length self.now.sending.waiting }
         ensures few { result ≤ most_numbers }
@@ -84,7 +84,7 @@ impl Sender {
         self.begun + u64::from(self.pieces - 1 - self.piece)
     }
 
-    /// How many frames were begun.
+    /// Returns how many frames were begun.
     pub fn told(&self) -> u64
         ensures value { result ≡ self.now.sending.told }
         ensures few { result ≤ most_numbers }
@@ -92,14 +92,14 @@ impl Sender {
         self.told
     }
 
-    /// Whether writes of a frame or link-down entry are left to post.
+    /// Returns whether writes of a frame or link-down entry are left to post.
     pub fn is_busy(&self) -> bool
         ensures { result ≡ is_busy_by self.now.sending }
     {
         self.left != 0
     }
 
-    /// Whether two senders of one queue have begun as much and have the same left to post.
+    /// Returns whether two senders of one queue have begun as much and have the same left to post.
     pub fn is_same(&self, other: &Sender) -> bool
         requires queue { self.now.queue ≡ other.now.queue }
         requires largest { self.now.largest ≡ other.now.largest }
@@ -117,7 +117,7 @@ impl Sender {
             )
     }
 
-    /// How many writes of the frame or link-down entry under way are left to post.
+    /// Returns how many writes of the frame or link-down entry under way are left to post.
     pub fn left(&self) -> usize
         ensures value { result ≡ count_left self.now }
         ensures few { result ≤ most_writes_left }
@@ -137,7 +137,7 @@ impl Sender {
         }
     }
 
-    /// The label of the next write of the entry at hand.
+    /// Returns the label of the next write of the entry at hand.
     pub fn label(&self) -> Option<Label>
         ensures value { result ≡ first_label self.now.sending.todo }
         ensures of_entry { MatchOption result (Unit {0}) (IsLabelOf self.now.queue self.now.sending.entry) }
@@ -147,7 +147,7 @@ impl Sender {
         label_at(self.queue, number, chunks, self.frame.is_some(), self.next)
     }
 
-    /// The payload of the entry at hand.
+    /// Returns the payload of the entry at hand.
     pub fn payload(&self) -> &[u8]
         ensures value { result.now ≡ bytes_of self.now.sending.entry }
         ensures fits { length result.now ≤ self.now.largest }
@@ -156,7 +156,7 @@ impl Sender {
         payload_of(&self.frame, self.largest, self.piece)
     }
 
-    /// How many entries of its frame follow the entry at hand.
+    /// Returns how many entries of its frame follow the entry at hand.
     pub fn followers(&self) -> u32
         ensures { result ≡ left_of self.now.sending.entry }
     {
@@ -224,7 +224,7 @@ impl Model for Sender {
     ghost invariant = { IsSender };
 }
 
-/// Whether numbers are left for this many more entries, and for a frame.
+/// Returns whether numbers are left for this many more entries, and for a frame.
 pub fn has_numbers(begun: u64, more: u32, told: u64) -> bool
     requires entries { begun ≤ most_numbers }
     requires frames { told ≤ most_numbers }
@@ -233,7 +233,7 @@ pub fn has_numbers(begun: u64, more: u32, told: u64) -> bool
     begun + u64::from(more) <= MOST_COUNT && told < MOST_COUNT
 }
 
-/// The payload of a piece of a frame.
+/// Returns the payload of a piece of a frame.
 pub fn piece_bytes(bytes: &[u8], largest: u32, piece: u32) -> &[u8]
     requires among { piece < pieces_by largest (length bytes.now) }
     requires some { 4 ≤ largest }
@@ -248,7 +248,7 @@ pub fn piece_bytes(bytes: &[u8], largest: u32, piece: u32) -> &[u8]
     &rest[..end]
 }
 
-// The bytes of a frame from a piece of it on.
+// Returns the bytes of a frame from a piece of it on.
 fn bytes_from(bytes: &[u8], largest: u32, piece: u32) -> &[u8]
     requires among { piece < pieces_by largest (length bytes.now) }
     requires some { 4 ≤ largest }
@@ -259,7 +259,7 @@ fn bytes_from(bytes: &[u8], largest: u32, piece: u32) -> &[u8]
     &bytes[largest as usize * piece as usize..]
 }
 
-// Whether two frames under way have the same entries from these pieces on. Of those before nothing is compared.
+// Returns whether two frames under way have the same entries from these pieces on. Of those before nothing is compared.
 fn have_same_entries(
     largest: u32,
     one: &Option<Frame>,
@@ -282,7 +282,7 @@ fn have_same_entries(
     }
 }
 
-// The payload of an entry of the frame under way.
+// Returns the payload of an entry of the frame under way.
 fn payload_of(frame: &Option<Frame>, largest: u32, piece: u32) -> &[u8]
     requires among { piece < length (entries_under largest frame.now) }
     requires some { 4 ≤ largest }
@@ -296,7 +296,7 @@ fn payload_of(frame: &Option<Frame>, largest: u32, piece: u32) -> &[u8]
     }
 }
 
-// How many writes it takes.
+// Returns how many writes it takes.
 fn writes_of(frame: &Option<Frame>, largest: u32, piece: u32) -> u32
     requires among { piece < length (entries_under largest frame.now) }
     requires some { 4 ≤ largest }
@@ -308,7 +308,7 @@ fn writes_of(frame: &Option<Frame>, largest: u32, piece: u32) -> u32
     writes_in(payload.len() as u32)
 }
 
-// The label of an entry's write.
+// Returns the label of an entry's write.
 fn label_at(queue: u32, number: u64, chunks: u32, carries: bool, next: u32) -> Option<Label>
     requires { chunks ≤ 512 }
     ensures { result ≡ label_by queue number chunks carries next }

@@ -71,7 +71,7 @@ fn come_up(pair: &mut Pair, side: Side) -> Result<(), AllocError>
     Ok(())
 }
 
-// The answer to a check.
+// Returns the answer to a check.
 fn check_answer(pair: &Pair, side: Side) -> CheckAnswer
     ensures { result ≡ answer_by pair.now side }
 {
@@ -105,7 +105,7 @@ fn check_answer(pair: &Pair, side: Side) -> CheckAnswer
     }
 }
 
-// The last test: no window of the peer is larger than the side's memory gives.
+// Returns the last test: no window of the peer is larger than the side's memory gives.
 fn size_answer(pair: &Pair, side: Side, own: &SidePlan) -> CheckAnswer
     requires own { own.now ≡ side_plan_of pair.now.plan side }
     requires windows { IsWindows own.now.windows }
@@ -120,7 +120,7 @@ fn size_answer(pair: &Pair, side: Side, own: &SidePlan) -> CheckAnswer
     CheckAnswer::Up
 }
 
-// The size of a window as the peer offered it.
+// Returns the size of a window as the peer offered it.
 fn offered_size(pair: &Pair, side: Side, m: u32) -> u64
     requires { m < 4 }
     ensures { result ≡ size_in (pads_of pair.now side) m }

@@ -144,7 +144,8 @@ fn up_to_nonzero(pair: &Pair, side: Side, ring: &Geometry, count: u32) -> u32
     0
 }
 
-// The same of the headers from one on up to another, looked at one by one: the first one's number where all are zero.
+// Returns the same of the headers from one on up to another, looked at one by one: the first one's number where all are
+// zero.
 fn up_to_nonzero_from(pair: &Pair, side: Side, ring: &Geometry, from: u32, to: u32) -> u32
     requires fit { WindowsFit pair.now.plan side }
     requires ring { IsReceivingRing pair.now.plan side ring.now }
@@ -167,8 +168,8 @@ fn up_to_nonzero_from(pair: &Pair, side: Side, ring: &Geometry, from: u32, to: u
     from
 }
 
-// Whether the headers from one on up to another are zero for sure: they are where all bytes from the first one's
-// beginning to the last one's end are. A few bytes are read, and of more it is asked whether no page is there.
+// Returns whether the headers from one on up to another are zero for sure: they are where all bytes from the first
+// one's beginning to the last one's end are. A few bytes are read, and of more it is asked whether no page is there.
 fn are_zero(pair: &Pair, side: Side, ring: &Geometry, from: u32, to: u32) -> bool
     requires fit { WindowsFit pair.now.plan side }
     requires ring { IsReceivingRing pair.now.plan side ring.now }
@@ -188,7 +189,7 @@ fn are_zero(pair: &Pair, side: Side, ring: &Geometry, from: u32, to: u32) -> boo
     }
 }
 
-// Whether each of this many bytes of a side's memory, `MOST` at most, is zero; `MOST` is 1,024 at most.
+// Returns whether each of this many bytes of a side's memory, `MOST` at most, is zero; `MOST` is 1,024 at most.
 fn is_zero<const MOST: usize>(pair: &Pair, side: Side, at: u64, len: usize) -> bool
     requires within { at + len ≤ length (bytes_of pair.now side) }
     requires few { len ≤ MOST }
@@ -200,7 +201,7 @@ fn is_zero<const MOST: usize>(pair: &Pair, side: Side, at: u64, len: usize) -> b
     bytes == [0u8; MOST]
 }
 
-// The address of a header of a ring that a side receives in.
+// Returns the address of a header of a ring that a side receives in.
 fn header_at(plan: &PairPlan, side: Side, ring: &Geometry, n: u32) -> u64
     requires declared { IsPair plan.now }
     requires fit { WindowsFit plan.now side }

@@ -51,21 +51,21 @@ pub fn offer(pair: &mut Pair, side: Side) -> Result<OfferAnswer, AllocError>
     Ok(OfferAnswer::Offered { index: pad.index })
 }
 
-// Whether the pair's link is up.
+// Returns whether the pair's link is up.
 fn is_up(pair: &Pair) -> bool
     ensures { result ≡ is_link_up pair.now.link.state }
 {
     pair.link().state() == LinkState::Up
 }
 
-// Whether a side has posted its whole offer.
+// Returns whether a side has posted its whole offer.
 fn is_whole(pair: &Pair, side: Side) -> bool
     ensures { result ≡ ((book_of pair.now side).offered == length (offers (side_plan_of pair.now.plan side))) }
 {
     pair.book(side).offered == 2 * side_plan(pair.plan(), side).windows + 3
 }
 
-// The next scratchpad of a side's offer, of which some is left.
+// Returns the next scratchpad of a side's offer, of which some is left.
 fn next_pad(pair: &Pair, side: Side) -> OfferedPad
     requires { (book_of pair.now side).offered ≢ length (offers (side_plan_of pair.now.plan side)) }
     ensures index { result.index ≡ pad_index (next_offer pair.now side) }
@@ -97,7 +97,7 @@ struct OfferedPad {
     value: u32,
 }
 
-// The scratchpad at this place of a side's offer, from 0.
+// Returns the scratchpad at this place of a side's offer, from 0.
 fn offered_pad(own: &SidePlan, place: u32) -> OfferedPad
     requires windows { IsWindows own.now.windows }
     requires within { place < 2 * own.now.windows + 3 }
@@ -127,7 +127,7 @@ fn offered_pad(own: &SidePlan, place: u32) -> OfferedPad
     }
 }
 
-// A half of a window's size.
+// Returns a half of a window's size.
 fn half(size: u64, is_high: bool) -> u32
     ensures { result ≡ (if is_high then size / word else size % word) }
 {

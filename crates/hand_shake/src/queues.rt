@@ -70,7 +70,7 @@ pub fn join(pair: &mut Pair, side: Side, queue: u32) -> JoinAnswer
     JoinAnswer::Joined
 }
 
-// Whether a number is in a set of numbers below 32, and the set with it.
+// Returns whether a number is in a set of numbers below 32, and the set with it.
 fn has_bit(bits: u32, k: u32) -> bool
     requires { k < 32 }
     ensures { result ≡ is_among bits k }

@@ -46,7 +46,7 @@ impl Memory {
         })
     }
 
-    /// A memory with the same bytes, of which the same pages are promised.
+    /// Returns a memory with the same bytes, of which the same pages are promised.
     ///
     /// # Errors
     ///
@@ -61,7 +61,7 @@ impl Memory {
         })
     }
 
-    /// How many bytes the memory has: fewer than 2^63.
+    /// Returns how many bytes the memory has: fewer than 2^63.
     #[inline]
     pub fn len(&self) -> u64
         ensures value { result ≡ length self.now.bytes }
@@ -70,15 +70,15 @@ impl Memory {
         self.len
     }
 
-    /// Whether the memory has no byte.
+    /// Returns whether the memory has no byte.
     pub fn is_empty(&self) -> bool
         ensures { IsTrue result ↔ (self.now.bytes ≡ []) }
     {
         self.len == 0
     }
 
-    /// How many pages are there, which are those that were promised. Each takes [`PAGE_SIZE`] bytes of the machine's
-    /// memory, and the table of the pages some more.
+    /// Returns how many pages are there, which are those that were promised. Each takes [`PAGE_SIZE`] bytes of the
+    /// machine's memory, and the table of the pages some more.
     pub fn page_count(&self) -> usize
         ensures count { result ≡ length self.now.promised }
         ensures distinct { NoRepeats self.now.promised }
@@ -86,8 +86,8 @@ impl Memory {
         self.promised.len()
     }
 
-    /// Whether no page is there of those that the `len` bytes from the address `at` on touch, which then are all 0.
-    /// They have to lie in the memory; no bytes touch no page.
+    /// Returns whether no page is there of those that the `len` bytes from the address `at` on touch, which then are
+    /// all 0. They have to lie in the memory; no bytes touch no page.
     pub fn is_blank(&self, at: u64, len: u64) -> bool
         requires { at + len ≤ length self.now.bytes }
         ensures absent { IsTrue result ↔ AreAbsent at len self.now.promised }
@@ -106,8 +106,8 @@ impl Memory {
         }
     }
 
-    /// Whether two memories have the same bytes at all addresses from one up to another, which have to lie in both.
-    /// Pages that neither has aren't looked at. It takes no memory.
+    /// Returns whether two memories have the same bytes at all addresses from one up to another, which have to lie in
+    /// both. Pages that neither has aren't looked at. It takes no memory.
     pub fn has_same_between(&self, other: &Memory, from: u64, to: u64) -> bool
         requires here { to ≤ length self.now.bytes }
         requires there { to ≤ length other.now.bytes }
@@ -204,7 +204,7 @@ impl Memory {
         self.promise_pages(at, len)
     }
 
-    // Whether the same bytes stand there on each page that this memory has.
+    // Returns whether the same bytes stand there on each page that this memory has.
     fn has_same_on_own(&self, other: &Memory, from: u64, to: u64) -> bool
         requires here { to ≤ length self.now.bytes }
         requires there { to ≤ length other.now.bytes }
@@ -218,7 +218,7 @@ impl Memory {
         true
     }
 
-    // The same, asked of one page.
+    // Returns the same, asked of one page.
     fn has_same_part(&self, other: &Memory, page: u64, from: u64, to: u64) -> bool
         requires here { to ≤ length self.now.bytes }
         requires there { to ≤ length other.now.bytes }
@@ -233,8 +233,8 @@ impl Memory {
         self.has_same_on_page(other, first, (end - first) as usize)
     }
 
-    // Whether the `len` bytes from the address `at` on are the same in two memories. They have to lie in both, and on
-    // one page. A page that isn't there reads as zeros.
+    // Returns whether the `len` bytes from the address `at` on are the same in two memories. They have to lie in both,
+    // and on one page. A page that isn't there reads as zeros.
     fn has_same_on_page(&self, other: &Memory, at: u64, len: usize) -> bool
         requires here { at + len ≤ length self.now.bytes }
         requires there { at + len ≤ length other.now.bytes }
@@ -251,7 +251,7 @@ impl Memory {
         }
     }
 
-    // Whether none of the promised pages is one of the pages from `first` to `last`.
+    // Returns whether none of the promised pages is one of the pages from `first` to `last`.
     fn promises_none(&self, first: u64, last: u64) -> bool
         ensures { IsTrue result ↔ AreNotAmong first last self.now.promised }
     {
@@ -263,7 +263,7 @@ impl Memory {
         true
     }
 
-    // The same, asked of each of the pages from `first` to `last`.
+    // Returns the same, asked of each of the pages from `first` to `last`.
     fn has_none(&self, first: u64, last: u64) -> bool
         requires { last < 2 ^ 63 }
         ensures { IsTrue result ↔ AreNotAmong first last self.now.promised }
@@ -398,7 +398,7 @@ impl Model for Memory {
     ghost invariant = { IsMemory };
 }
 
-// How many bytes of its page stand from an address on.
+// Returns how many bytes of its page stand from an address on.
 #[inline]
 fn room_on_page(address: u64) -> usize
     ensures { result ≡ 512 - address % 512 }
@@ -406,7 +406,7 @@ fn room_on_page(address: u64) -> usize
     (PAGE_SIZE - address % PAGE_SIZE) as usize
 }
 
-// Whether the bytes, no more than a page of them, are all zero.
+// Returns whether the bytes, no more than a page of them, are all zero.
 #[inline]
 fn are_zeros(bytes: &[u8]) -> bool
     requires { length bytes.now ≤ 512 }

@@ -32,7 +32,7 @@ impl Pages {
         }
     }
 
-    /// The same pages, each with the same bytes. Returns an error if memory runs out.
+    /// Returns the same pages, each with the same bytes. Returns an error if memory runs out.
     pub fn copy_of(&self, alloc: Global) -> Result<Pages, AllocError>
         ensures { IfOk result (λ copy. bytes_by_group copy.groups.items ≡ bytes_by_group self.now.groups.items) }
     {
@@ -44,7 +44,7 @@ impl Pages {
         Ok(Pages { groups, alloc })
     }
 
-    /// The page of this number, where it is there.
+    /// Returns the page of this number, where it is there.
     #[inline]
     pub fn get(&self, number: u64) -> Option<&Page>
         ensures { option_copied result ≡ page_at self.now.groups.items number }
@@ -109,7 +109,7 @@ fn make_places(group: &mut Group, count: usize) -> Result<(), AllocError>
     Ok(())
 }
 
-// A group with the same pages at its places.
+// Returns a group with the same pages at its places.
 fn copy_of_group(group: &Group, alloc: Global) -> Result<Group, AllocError>
     ensures { IfOk result (λ copy. bytes_by_place copy ≡ bytes_by_place group.now) }
 {
@@ -121,7 +121,7 @@ fn copy_of_group(group: &Group, alloc: Global) -> Result<Group, AllocError>
     Ok(places)
 }
 
-// A page with the same bytes, where there is one.
+// Returns a page with the same bytes, where there is one.
 fn copy_of_page(page: &Option<Page>, alloc: Global) -> Result<Option<Page>, AllocError>
     ensures { IfOk result (λ copy. page_bytes copy ≡ page_bytes page.now) }
 {

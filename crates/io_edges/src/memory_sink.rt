@@ -20,9 +20,9 @@ pub struct MemorySink {
 }
 
 impl MemorySink {
-    /// An empty sink for `room` bytes, which are reserved here. `piece` is the most bytes that a write takes, and
-    /// `fails` has the numbers of the writes that fail, where the first is 0. Each of them raises the count of faults,
-    /// and so does a write that can take nothing of a piece that isn't empty.
+    /// Returns an empty sink for `room` bytes, which are reserved here. `piece` is the most bytes that a write takes,
+    /// and `fails` has the numbers of the writes that fail, where the first is 0. Each of them raises the count of
+    /// faults, and so does a write that can take nothing of a piece that isn't empty.
     ///
     /// # Errors
     ///
@@ -48,7 +48,7 @@ impl MemorySink {
         })
     }
 
-    /// The bytes that writes have put into it.
+    /// Returns the bytes that writes have put into it.
     pub fn held(&self) -> &[u8]
         ensures { result.now ≡ self.now.held }
     {

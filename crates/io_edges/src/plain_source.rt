@@ -14,7 +14,7 @@ pub struct PlainSource {
 }
 
 impl PlainSource {
-    /// A source of these bytes.
+    /// Returns a source of these bytes.
     pub fn new(bytes: Vec<u8>) -> PlainSource
         ensures { result ≡ bytes.items }
     {

@@ -24,7 +24,7 @@ impl FaultPlan {
         }
     }
 
-    /// Whether the next call is one of those that fail.
+    /// Returns whether the next call is one of those that fail.
     pub(crate) fn is_due(&self) -> bool
         ensures { result ≡ is_due self.now }
     {

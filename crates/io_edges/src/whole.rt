@@ -104,7 +104,7 @@ pub fn read_all<S: Source>(
     Err(ReadError::TooLong)
 }
 
-/// A buffer of this many bytes.
+/// Returns a buffer of this many bytes.
 fn zeros(alloc: Global, len: usize) -> Result<Vec<u8>, AllocError>
     ensures { IfOk result (λ buffer. vec_len buffer ≡ len) }
 {

@@ -18,7 +18,7 @@ pub enum Entry {
 impl Entry {
     ghost use Rattle.lane_core.specs.Parts.{entry_seen};
 
-    /// The bytes that it carries.
+    /// Returns the bytes that it carries.
     pub fn bytes(&self) -> &[u8]
         ensures value { result.now ≡ bytes_of (entry_seen self.now) }
         ensures fits { length result.now ≤ most_frame_bytes }
@@ -29,7 +29,7 @@ impl Entry {
         }
     }
 
-    /// The flags of its header.
+    /// Returns the flags of its header.
     pub fn flags(&self) -> u32
         ensures { result ≡ flags_of (entry_seen self.now) }
     {
@@ -39,7 +39,7 @@ impl Entry {
         }
     }
 
-    /// How many chunks its bytes are, 512 at most.
+    /// Returns how many chunks its bytes are, 512 at most.
     pub fn chunks(&self) -> u32
         ensures value { result ≡ chunks_in (length (bytes_of (entry_seen self.now))) }
         ensures few { result ≤ 512 }

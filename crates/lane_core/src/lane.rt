@@ -55,8 +55,8 @@ impl Lane {
     ghost use Rattle.lane_core.specs.Calls.{with_lane, begin_answer, down_answer, after_beginning, post_answer, after_posting, land_answer, after_land, land_index_answer, after_land_index, look_answer, after_looking, copy_answer, after_copying, clear_answer, after_clearing, ack_answer, after_acking};
     ghost use Rattle.lane_core.specs.Fresh.{fresh_value};
 
-    /// A lane at the start of its session: nothing was begun, and the index word says that all entries are free but the
-    /// one that always stays so. `queue` stands in its labels alone.
+    /// Returns a lane at the start of its session: nothing was begun, and the index word says that all entries are free
+    /// but the one that always stays so. `queue` stands in its labels alone.
     ///
     /// The ring has `entries` zeroed slots, 2 at least, of which one always stays free; a slot takes payloads of up to
     /// `max` bytes, from 1 to 65,536. On a `strict` lane no write passes another; else the fields of an entry may pass

@@ -15,7 +15,7 @@ use lane_model::{Field, Write};
 use std::alloc::{AllocError, Global};
 use step_kinds::Label;
 
-/// A ring of this many zeroed slots. Returns an error if memory runs out.
+/// Returns a ring of this many zeroed slots. Returns an error if memory runs out.
 pub fn zeroed_ring(alloc: Global, entries: u32, largest: u32) -> Result<Vec<Slot>, AllocError>
     ensures { IfOk result (λ ring. map place_seen ring.items ≡ replicate entries (zeroed_slot largest)) }
 {
@@ -26,7 +26,7 @@ pub fn zeroed_ring(alloc: Global, entries: u32, largest: u32) -> Result<Vec<Slot
     Ok(ring)
 }
 
-/// The slot of the entry of this number, in a ring of `entries` slots, 1 at least.
+/// Returns the slot of the entry of this number, in a ring of `entries` slots, 1 at least.
 pub fn position_of(entries: u32, number: u64) -> u32
     requires { 0 < entries }
     ensures value { result ≡ number % entries }
@@ -35,7 +35,7 @@ pub fn position_of(entries: u32, number: u64) -> u32
     (number % u64::from(entries)) as u32
 }
 
-/// The free entries of a ring, by the slot of the next entry, which is below `entries`, and the index word.
+/// Returns the free entries of a ring, by the slot of the next entry, which is below `entries`, and the index word.
 pub fn free_between(entries: u32, head: u32, tail: u32) -> u32
     requires { head < entries }
     ensures { result ≡ free_entries entries head tail }
@@ -106,7 +106,7 @@ fn append_reserved(out: &mut Vec<u8>, bytes: &[u8])
     }
 }
 
-/// The label of a write of the lane on a queue. If it writes flags, their entry was begun.
+/// Returns the label of a write of the lane on a queue. If it writes flags, their entry was begun.
 pub fn label(queue: u32, sent: &[Entry], mark: Write) -> Label
     requires { IsKnown mark (length sent.now) }
     ensures { result ≡ label_of queue (entry_in (map entry_seen sent.now) (number_of mark)) mark }
@@ -121,7 +121,7 @@ pub fn label(queue: u32, sent: &[Entry], mark: Write) -> Label
     }
 }
 
-// The label of a field.
+// Returns the label of a field.
 fn field_label(queue: u32, number: u64, field: Field) -> Label
     ensures { result ≡ label_of queue GoesDown (Data number field) }
 {

@@ -31,8 +31,8 @@ impl Slot {
     ghost use Rattle.lane_core.specs.Fresh.{zeroed_slot};
     ghost use Rattle.lane_core.specs.Parts.{entry_seen, place_seen, BeginsWithin};
 
-    /// A slot of which all bytes are zero, with room for payloads of up to `largest` bytes. Returns an error if memory
-    /// runs out.
+    /// Returns a slot of which all bytes are zero, with room for payloads of up to `largest` bytes. Returns an error if
+    /// memory runs out.
     pub fn zeroed(alloc: Global, largest: u32) -> Result<Slot, AllocError>
         ensures { IfOk result (λ place. place_seen place ≡ zeroed_slot largest) }
     {
@@ -59,7 +59,7 @@ impl Slot {
         }
     }
 
-    /// What its flags say.
+    /// Returns what its flags say.
     pub fn shows(&self) -> Shown
         ensures nothing { self.now.flags ≡ 0 → result ≡ Shown.Nothing }
         ensures frame { self.now.flags ≡ 1 → result ≡ Shown.Frame }

@@ -30,14 +30,14 @@ impl Fdb {
         })
     }
 
-    /// Whether the same stations are known, in one order and on the same ports.
+    /// Returns whether the same stations are known, in one order and on the same ports.
     pub fn is_same(&self, other: &Fdb) -> bool
         ensures { IsTrue result ↔ (self.now ≡ other.now) }
     {
         self.stations.as_slice() == other.stations.as_slice()
     }
 
-    /// A database of the same stations, with room for all.
+    /// Returns a database of the same stations, with room for all.
     ///
     /// # Errors
     ///
@@ -50,7 +50,7 @@ impl Fdb {
         Ok(Fdb { stations })
     }
 
-    /// The port on which a station was seen last, where it is known. It looks at each station.
+    /// Returns the port on which a station was seen last, where it is known. It looks at each station.
     pub fn lookup(&self, address: &[u8; 6]) -> Option<u32>
         ensures { result ≡ lookup self.now address.now }
     {
@@ -58,7 +58,7 @@ impl Fdb {
         Some(self.stations[place].port)
     }
 
-    /// What [`Fdb::lookup`] will answer once the source of a frame from a port is learned.
+    /// Returns what [`Fdb::lookup`] will answer once the source of a frame from a port is learned.
     pub fn lookup_with(&self, source: &[u8; 6], port: u32, address: &[u8; 6]) -> Option<u32>
         ensures { result ≡ lookup (learned_source self.now port source.now) address.now }
     {
@@ -111,7 +111,7 @@ impl Model for Fdb {
     ghost invariant = { λ fdb. (vec_len fdb.stations ≤ 256) × (256 ≤ vec_capacity fdb.stations) };
 }
 
-// The place of the station with this address.
+// Returns the place of the station with this address.
 fn place_of(stations: &[Station], address: &[u8; 6]) -> Option<usize>
     ensures value { result ≡ place_of stations.now address.now }
     ensures below { IfSome result (λ place. place < length stations.now) }
@@ -124,7 +124,7 @@ fn place_of(stations: &[Station], address: &[u8; 6]) -> Option<usize>
     None
 }
 
-/// Whether an address names a group of devices: whether its first byte is odd.
+/// Returns whether an address names a group of devices: whether its first byte is odd.
 pub fn is_multicast(address: &[u8; 6]) -> bool
     ensures { result ≡ is_multicast address.now }
 {

@@ -50,21 +50,21 @@ impl FrameQueue {
         self.push(copy)
     }
 
-    /// The first frame, if there is one.
+    /// Returns the first frame, if there is one.
     pub fn first(&self) -> Option<&Frame>
         ensures { option_copied result ≡ slice_get self.now 0 }
     {
         self.frames.front()
     }
 
-    /// Whether two queues have the same frames, in one order.
+    /// Returns whether two queues have the same frames, in one order.
     pub fn is_same(&self, other: &FrameQueue) -> bool
         ensures { IsTrue result ↔ (self.now ≡ other.now) }
     {
         are_same_frames(&self.frames, &other.frames)
     }
 
-    /// A queue of the same frames, in one order.
+    /// Returns a queue of the same frames, in one order.
     ///
     /// # Errors
     ///
@@ -95,7 +95,7 @@ impl Model for FrameQueue {
     ghost view = { λ queue. queue.frames.items };
 }
 
-// Whether two lists have the same frames, in one order.
+// Returns whether two lists have the same frames, in one order.
 fn are_same_frames(frames: &VecDeque<Frame>, others: &VecDeque<Frame>) -> bool
     ensures { IsTrue result ↔ (frames.now.items ≡ others.now.items) }
 {
@@ -110,7 +110,7 @@ fn are_same_frames(frames: &VecDeque<Frame>, others: &VecDeque<Frame>) -> bool
     true
 }
 
-/// The same queues, in one order.
+/// Returns the same queues, in one order.
 ///
 /// # Errors
 ///

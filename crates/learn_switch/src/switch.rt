@@ -27,7 +27,7 @@ pub struct Switch {
 }
 
 impl Switch {
-    /// A switch with this many ports, 2 to 16. It has no frame and knows no station.
+    /// Returns a switch with this many ports, 2 to 16. It has no frame and knows no station.
     ///
     /// # Errors
     ///
@@ -100,8 +100,8 @@ impl Switch {
         Ok(answer)
     }
 
-    /// The first frame that waits on a port, and `None` if and only if none waits. It has 14 bytes at least. The port
-    /// is below the number of ports.
+    /// Returns the first frame that waits on a port, and `None` if and only if none waits. It has 14 bytes at least.
+    /// The port is below the number of ports.
     pub fn first(&self, port: u32) -> Option<&Frame>
         requires { port < length self.now.waiting }
         ensures value { option_copied result ≡ first self.now port }
@@ -120,8 +120,8 @@ impl Switch {
         self.waiting[port as usize].drop_first();
     }
 
-    /// Whether two switches are in the same state: of each port the frames that arrived and those that wait, and the
-    /// stations in the order in which they were learned. It takes no memory.
+    /// Returns whether two switches are in the same state: of each port the frames that arrived and those that wait,
+    /// and the stations in the order in which they were learned. It takes no memory.
     pub fn is_same(&self, other: &Switch) -> bool
         ensures { IsTrue result ↔ (self.now ≡ other.now) }
     {
@@ -130,7 +130,7 @@ impl Switch {
             && are_same_queues(&self.waiting, &other.waiting)
     }
 
-    /// A switch in the same state.
+    /// Returns a switch in the same state.
     ///
     /// # Errors
     ///
@@ -146,7 +146,7 @@ impl Switch {
         })
     }
 
-    /// The port on which a station was seen last, and `None` if and only if it isn't known.
+    /// Returns the port on which a station was seen last, and `None` if and only if it isn't known.
     pub fn lookup(&self, address: [u8; 6]) -> Option<u32>
         ensures { result ≡ lookup self.now.fdb address }
     {
@@ -164,7 +164,7 @@ impl Model for Switch {
     ghost invariant = { λ switch. IsSwitch switch.inboxes.items switch.waiting.items switch.fdb };
 }
 
-// Whether two lists have the same queues, in one order.
+// Returns whether two lists have the same queues, in one order.
 fn are_same_queues(queues: &[FrameQueue], others: &[FrameQueue]) -> bool
     ensures { IsTrue result ↔ (queues.now ≡ others.now) }
 {
@@ -179,7 +179,7 @@ fn are_same_queues(queues: &[FrameQueue], others: &[FrameQueue]) -> bool
     true
 }
 
-// The addresses of a frame, where it has an Ethernet header.
+// Returns the addresses of a frame, where it has an Ethernet header.
 fn header_of(frame: &Frame) -> Result<Header, Short>
     ensures short { IfErr result (λ short. (length frame.now < ethernet_header) × (short.len ≡ length frame.now)) }
     ensures header { IfOk result (λ header. (ethernet_header ≤ length frame.now) × (header.dst ≡ destination frame.now) × (header.src ≡ source frame.now)) }

@@ -13,14 +13,14 @@ pub struct Flags {
 }
 
 impl Flags {
-    /// The same flag for both sides.
+    /// Returns the same flag for both sides.
     pub fn both(flag: bool) -> Flags
         ensures { both_flags result ≡ both_of flag }
     {
         Flags { a: flag, b: flag }
     }
 
-    /// The flag of a side.
+    /// Returns the flag of a side.
     pub fn at(&self, side: Side) -> bool
         ensures { result ≡ at_side (both_flags self.now) side }
     {

@@ -45,8 +45,8 @@ pub struct Link {
 }
 
 impl Link {
-    /// The link of a pair before any step. It is down, with no session yet and enabled by no side, or, where `up`
-    /// holds, up in session 1 and enabled by both sides. Both sides are clean.
+    /// Returns the link of a pair before any step. It is down, with no session yet and enabled by no side, or, where
+    /// `up` holds, up in session 1 and enabled by both sides. Both sides are clean.
     pub fn fresh(up: bool) -> Link
         ensures { result ≡ fresh_link up }
     {
@@ -58,14 +58,14 @@ impl Link {
         }
     }
 
-    /// Whether the link is down, up or closing.
+    /// Returns whether the link is down, up or closing.
     pub fn state(&self) -> LinkState
         ensures { result ≡ self.now.state }
     {
         self.state
     }
 
-    /// The number of the session, from 1 to 65,535, and 0 before the first. It stays when the link is lost.
+    /// Returns the number of the session, from 1 to 65,535, and 0 before the first. It stays when the link is lost.
     pub fn session(&self) -> u32
         ensures value { result ≡ self.now.session }
         ensures numbered { result ≤ most_sessions }
@@ -73,8 +73,8 @@ impl Link {
         self.session
     }
 
-    /// Whether the side has enabled the link. Both sides have where it is up from the start, and neither has after
-    /// [`Link::drop_done`].
+    /// Returns whether the side has enabled the link. Both sides have where it is up from the start, and neither has
+    /// after [`Link::drop_done`].
     pub fn enabled(&self, side: Side) -> bool
         ensures { result ≡ at_side self.now.enabled side }
     {
@@ -154,7 +154,8 @@ impl Link {
         Ok(())
     }
 
-    /// Whether the side is clean: no session was dropped yet, or it has forgotten the one that was dropped last.
+    /// Returns whether the side is clean: no session was dropped yet, or it has forgotten the one that was dropped
+    /// last.
     pub fn clean(&self, side: Side) -> bool
         ensures { result ≡ at_side self.now.clean side }
     {

@@ -31,9 +31,9 @@ pub struct Short {
     pub len: u32,
 }
 
-/// The Ethernet frame with these addresses and this kind, its high byte first, before a payload. The payload has to
-/// have at most 65,522 bytes: with the 14 bytes before it the frame has at most 65,536. So the largest payload of a
-/// device is 14 bytes below the longest frame of its queue.
+/// Returns the Ethernet frame with these addresses and this kind, its high byte first, before a payload. The payload
+/// has to have at most 65,522 bytes: with the 14 bytes before it the frame has at most 65,536. So the largest payload
+/// of a device is 14 bytes below the longest frame of its queue.
 ///
 /// # Errors
 ///

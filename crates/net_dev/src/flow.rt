@@ -18,8 +18,8 @@ impl Flow {
     ghost use Rattle.pair_model.specs.Device.{stays_stopped, stopped_after_send};
     ghost use Rattle.net_dev.specs.Flow.{going_on, with_stopped};
 
-    /// A device that goes on. It stops where fewer than `stop` entries are free, and then goes on where at least
-    /// `start` are.
+    /// Returns a device that goes on. It stops where fewer than `stop` entries are free, and then goes on where at
+    /// least `start` are.
     pub fn new(stop: u32, start: u32) -> Flow
         ensures { result ≡ going_on stop start }
     {
@@ -30,7 +30,7 @@ impl Flow {
         }
     }
 
-    /// Whether the device is stopped.
+    /// Returns whether the device is stopped.
     pub fn stopped(&self) -> bool
         ensures { result ≡ self.now.stopped }
     {

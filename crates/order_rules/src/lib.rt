@@ -38,8 +38,8 @@ pub struct OrderTable<const K: usize> {
 }
 
 impl<const K: usize> OrderTable<K> {
-    /// Whether a later transaction of the first kind may pass an earlier one of the second, of the same traffic class:
-    /// the table's entry in row `later` and column `earlier`. Both are kinds of the table, below `K`.
+    /// Returns whether a later transaction of the first kind may pass an earlier one of the second, of the same traffic
+    /// class: the table's entry in row `later` and column `earlier`. Both are kinds of the table, below `K`.
     pub fn may_pass(&self, later: usize, earlier: usize) -> bool
         requires later_in_table { later < K }
         requires earlier_in_table { earlier < K }
@@ -48,9 +48,9 @@ impl<const K: usize> OrderTable<K> {
         self.rows[later][earlier]
     }
 
-    /// Whether a later transaction of one kind and traffic class may pass an earlier one of another. It may if and only
-    /// if the table says so of the kinds, or where the classes differ, since between different traffic classes no order
-    /// holds (PCI Express Base 4.0, section 2.4). Both kinds are below `K`.
+    /// Returns whether a later transaction of one kind and traffic class may pass an earlier one of another. It may if
+    /// and only if the table says so of the kinds, or where the classes differ, since between different traffic classes
+    /// no order holds (PCI Express Base 4.0, section 2.4). Both kinds are below `K`.
     pub fn passes(&self, later: usize, later_class: u32, earlier: usize, earlier_class: u32) -> bool
         requires later_in_table { later < K }
         requires earlier_in_table { earlier < K }

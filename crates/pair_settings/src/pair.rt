@@ -16,14 +16,14 @@ const DEFAULT_WINDOWS: u32 = 1;
 /// The bytes of each window that a side sends through where none are said.
 const DEFAULT_SIZE: u32 = 65_536;
 
-/// Whether the options have this one, whatever its number is.
+/// Returns whether the options have this one, whatever its number is.
 pub fn has_setting(setting: Setting, settings: &[Setting]) -> bool
     ensures { result ≡ rules.has_setting setting settings.now }
 {
     settings.iter().any(|other| setting.is_same(other))
 }
 
-/// The number of an option of these sides, where it stands.
+/// Returns the number of an option of these sides, where it stands.
 fn number_at(settings: &[Setting], key: SideKey, side: Option<Side>) -> Option<u32>
     ensures { result ≡ rules.number_at key side settings.now }
 {
@@ -42,7 +42,7 @@ fn number_at(settings: &[Setting], key: SideKey, side: Option<Side>) -> Option<u
     None
 }
 
-/// A side's number: its own key's, else the plain key's, else what it is where nothing is said.
+/// Returns a side's number: its own key's, else the plain key's, else what it is where nothing is said.
 fn side_number(settings: &[Setting], key: SideKey, side: Side, default: u32) -> u32
     ensures { result ≡ rules.side_number settings.now key side default }
 {
@@ -51,7 +51,7 @@ fn side_number(settings: &[Setting], key: SideKey, side: Side, default: u32) -> 
         .unwrap_or(default)
 }
 
-/// The largest transfer unit.
+/// Returns the largest transfer unit.
 fn mtu_in(settings: &[Setting]) -> u32
     ensures { result ≡ rules.mtu_in settings.now }
 {
@@ -63,7 +63,7 @@ fn mtu_in(settings: &[Setting]) -> u32
     MOST_MTU
 }
 
-/// The bytes of each window that a side sends through.
+/// Returns the bytes of each window that a side sends through.
 fn size_of(settings: &[Setting], side: Side) -> u32
     ensures { result ≡ rules.size_of settings.now side }
 {
@@ -84,8 +84,8 @@ fn side_with(settings: &[Setting], side: Side) -> SidePlan
     }
 }
 
-/// The pair that the options declare. Of options that are the same the first counts. If a side has no number of its
-/// own, that of both sides counts.
+/// Returns the pair that the options declare. Of options that are the same the first counts. If a side has no number of
+/// its own, that of both sides counts.
 ///
 /// If nothing is said, a side has version 4, one queue and one window of 65,536 bytes, its cap is the peer's size, and
 /// the mtu is 65,536. The pair starts up, and is strict or raw, where an option says so. Each class is 0.
@@ -105,15 +105,15 @@ pub fn pair_with(name: Name, settings: &[Setting]) -> PairPlan
     }
 }
 
-/// Whether each side's windows fit the peer's memory.
+/// Returns whether each side's windows fit the peer's memory.
 fn sizes_fit(pair: &PairPlan) -> bool
     ensures { result ≡ rules.sizes_fit pair.now }
 {
     pair.a.size <= pair.b.cap && pair.b.size <= pair.a.cap
 }
 
-/// Whether a handshake can bring up the two sides: both have version 4 or more, they have as many queues and windows,
-/// and each side's windows fit the peer's memory.
+/// Returns whether a handshake can bring up the two sides: both have version 4 or more, they have as many queues and
+/// windows, and each side's windows fit the peer's memory.
 pub fn agrees(pair: &PairPlan) -> bool
     ensures { result ≡ rules.agrees pair.now }
 {
@@ -124,15 +124,16 @@ pub fn agrees(pair: &PairPlan) -> bool
         && sizes_fit(pair)
 }
 
-/// Whether the longer header of version 5 and four bytes have room in a slot.
+/// Returns whether the longer header of version 5 and four bytes have room in a slot.
 fn has_room_for_header(pair: &PairPlan) -> bool
     ensures { result ≡ rules.has_room_for_header pair.now }
 {
     pair.a.version != 5 && pair.b.version != 5 || pair.mtu >= 20
 }
 
-/// Whether the numbers of a pair go together. One side at least has version 4 or more, and where one has version 5 the
-/// mtu is at least 20. The sides of a pair that starts up agree, and those of a raw pair fit each other's memory.
+/// Returns whether the numbers of a pair go together. One side at least has version 4 or more, and where one has
+/// version 5 the mtu is at least 20. The sides of a pair that starts up agree, and those of a raw pair fit each other's
+/// memory.
 pub fn goes_together(pair: &PairPlan) -> bool
     ensures { result ≡ rules.goes_together pair.now }
 {

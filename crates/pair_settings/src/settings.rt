@@ -54,7 +54,7 @@ pub enum Setting {
 }
 
 impl SideKey {
-    /// The key as it is written.
+    /// Returns the key as it is written.
     pub fn text(self) -> &'static [u8]
         ensures { result.now ≡ rules.key_text self }
     {
@@ -67,7 +67,7 @@ impl SideKey {
         }
     }
 
-    /// The range of a number of this key.
+    /// Returns the range of a number of this key.
     pub fn range(self) -> Range
         ensures { result ≡ rules.key_range self }
     {
@@ -88,7 +88,7 @@ impl SideKey {
         }
     }
 
-    /// Whether a number of bytes is a whole number of steps, where the key's is one of bytes.
+    /// Returns whether a number of bytes is a whole number of steps, where the key's is one of bytes.
     fn is_stepped(self, number: u32) -> bool
         ensures { result ≡ rules.is_stepped self number }
     {
@@ -98,7 +98,7 @@ impl SideKey {
         }
     }
 
-    /// Whether this is the same key.
+    /// Returns whether this is the same key.
     pub fn is_same(self, other: SideKey) -> bool
         ensures { result ≡ rules.same_key self other }
     {
@@ -107,7 +107,7 @@ impl SideKey {
 }
 
 impl Setting {
-    /// Whether this is the same option, whatever its number is.
+    /// Returns whether this is the same option, whatever its number is.
     pub fn is_same(&self, other: &Setting) -> bool
         ensures { result ≡ rules.same_setting self.now other.now }
     {
@@ -128,7 +128,7 @@ impl Setting {
         }
     }
 
-    /// The range of the option's number, where it has one.
+    /// Returns the range of the option's number, where it has one.
     pub fn range(&self) -> Option<Range>
         ensures { result ≡ rules.range_of self.now }
     {
@@ -139,8 +139,8 @@ impl Setting {
         }
     }
 
-    /// Whether the option's number, taken by itself, is one that it may have. It lies in [`Setting::range`], and a size
-    /// or a cap is a multiple of 4,096. An option without a number is always in range.
+    /// Returns whether the option's number, taken by itself, is one that it may have. It lies in [`Setting::range`],
+    /// and a size or a cap is a multiple of 4,096. An option without a number is always in range.
     pub fn is_in_range(&self) -> bool
         ensures { result ≡ rules.in_range self.now }
     {
@@ -154,7 +154,7 @@ impl Setting {
     }
 }
 
-/// Whether two options of a key are for the same sides.
+/// Returns whether two options of a key are for the same sides.
 pub fn is_same_scope(side: Option<Side>, other: Option<Side>) -> bool
     ensures { result ≡ rules.same_scope side other }
 {
@@ -165,7 +165,7 @@ pub fn is_same_scope(side: Option<Side>, other: Option<Side>) -> bool
     }
 }
 
-/// The range of the largest transfer unit.
+/// Returns the range of the largest transfer unit.
 fn mtu_range() -> Range
     ensures { result ≡ rules.mtu_range }
 {
@@ -175,7 +175,7 @@ fn mtu_range() -> Range
     }
 }
 
-/// Whether a number is one of the range.
+/// Returns whether a number is one of the range.
 fn is_within(range: Range, number: u32) -> bool
     ensures { result ≡ rules.is_within range number }
 {

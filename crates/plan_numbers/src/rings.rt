@@ -13,8 +13,8 @@ use pair_model::laws::each_queue_has_a_ring;
 use ring_geometry::Geometry;
 use step_kinds::{PairPlan, Side};
 
-/// The ring that a side of a declared pair sends to on a queue, which has to be one of the side's. The ring lies in the
-/// peer's memory, in one of the windows that the side sends through.
+/// Returns the ring that a side of a declared pair sends to on a queue, which has to be one of the side's. The ring
+/// lies in the peer's memory, in one of the windows that the side sends through.
 pub fn sending_ring(plan: &PairPlan, side: Side, queue: u32) -> Geometry
     requires declared { IsPair plan.now }
     requires among { queue < (side_plan_of plan.now side).queues }
@@ -25,8 +25,8 @@ pub fn sending_ring(plan: &PairPlan, side: Side, queue: u32) -> Geometry
     ring_in(plan, side, side_plan(plan, side).size, queue)
 }
 
-/// The ring that a side of a declared pair receives in on a queue, which has to be one of the side's. The ring lies in
-/// the side's own memory, in a window that the peer sends through.
+/// Returns the ring that a side of a declared pair receives in on a queue, which has to be one of the side's. The ring
+/// lies in the side's own memory, in a window that the peer sends through.
 pub fn receiving_ring(plan: &PairPlan, side: Side, queue: u32) -> Geometry
     requires declared { IsPair plan.now }
     requires among { queue < (side_plan_of plan.now side).queues }
@@ -36,9 +36,9 @@ pub fn receiving_ring(plan: &PairPlan, side: Side, queue: u32) -> Geometry
     ring_in(plan, side, side_plan(plan, side.other()).size, queue)
 }
 
-/// The address of the index word of the lane that a side of a declared pair sends on a queue, which has to be one of
-/// the side's. The word is four bytes long and lies in the side's own memory. The windows that the peer sends through
-/// have to fit there.
+/// Returns the address of the index word of the lane that a side of a declared pair sends on a queue, which has to be
+/// one of the side's. The word is four bytes long and lies in the side's own memory. The windows that the peer sends
+/// through have to fit there.
 pub fn index_word_at(plan: &PairPlan, side: Side, queue: u32) -> u64
     requires declared { IsPair plan.now }
     requires among { queue < (side_plan_of plan.now side).queues }
@@ -50,7 +50,7 @@ pub fn index_word_at(plan: &PairPlan, side: Side, queue: u32) -> u64
     own_address(plan, side, ring.window_of(), ring.index_at())
 }
 
-// A ring of one of a side's queues, in windows of this many bytes, which are the side's or the peer's.
+// Returns a ring of one of a side's queues, in windows of this many bytes, which are the side's or the peer's.
 fn ring_in(plan: &PairPlan, side: Side, size: u64, queue: u32) -> Geometry
     requires placed { IsPlaced (layout_in plan.now side size queue) }
     ensures { result ≡ layout_in plan.now side size queue }

@@ -14,7 +14,7 @@ use step_kinds::{Label, Name, PairPlan, Side, SidePlan};
 // A scratchpad has 32 bits.
 const WORD: u64 = 1 << 32;
 
-/// The numbers of a side.
+/// Returns the numbers of a side.
 pub fn side_plan(plan: &PairPlan, side: Side) -> SidePlan
     ensures { result ≡ side_plan_of plan.now side }
 {
@@ -24,14 +24,14 @@ pub fn side_plan(plan: &PairPlan, side: Side) -> SidePlan
     }
 }
 
-/// Whether the pair speaks version 5: both sides declare it.
+/// Returns whether the pair speaks version 5: both sides declare it.
 pub fn speaks_five(pair: &PairPlan) -> bool
     ensures { agreed_version pair.now ≡ (if result then 5 else 4) }
 {
     pair.a.version == 5 && pair.b.version == 5
 }
 
-/// The bytes of a header: 16 where both sides speak version 5, else 12.
+/// Returns the bytes of a header: 16 where both sides speak version 5, else 12.
 pub fn header_bytes(plan: &PairPlan) -> u32
     ensures { result ≡ bytes_of_header plan.now }
 {
@@ -50,8 +50,8 @@ pub fn classes_of(plan: &PairPlan, side: Side) -> &[u32; 16]
     }
 }
 
-/// The traffic class of a write, by those of its side's queues, each below 8: that of its queue. A write of no queue
-/// has class 0.
+/// Returns the traffic class of a write, by those of its side's queues, each below 8: that of its queue. A write of no
+/// queue has class 0.
 pub fn class_among(classes: &[u32; 16], label: Label) -> u32
     requires { AreClasses classes.now }
     ensures value { result ≡ order_class classes.now label }
@@ -82,7 +82,7 @@ pub fn kind_of(is_strict: bool, label: Label) -> usize
     }
 }
 
-/// A plan with the same numbers.
+/// Returns a plan with the same numbers.
 pub fn copy_of(plan: &PairPlan) -> PairPlan
     ensures { result ≡ plan.now }
 {
@@ -99,7 +99,7 @@ pub fn copy_of(plan: &PairPlan) -> PairPlan
     }
 }
 
-/// The bytes of the memory of a side of a declared pair: its windows, each as large as the memory gives them.
+/// Returns the bytes of the memory of a side of a declared pair: its windows, each as large as the memory gives them.
 pub fn memory_bytes(plan: &PairPlan, side: Side) -> u64
     requires { IsPair plan.now }
     ensures { result ≡ memory_size plan.now side }
@@ -108,8 +108,8 @@ pub fn memory_bytes(plan: &PairPlan, side: Side) -> u64
     u64::from(own.windows) * own.cap
 }
 
-/// The address of a place in one of the windows of a side's own memory, which follow one another. The pair has to be a
-/// declared one, the window one of the side's, and the offset at most the side's `cap`.
+/// Returns the address of a place in one of the windows of a side's own memory, which follow one another. The pair has
+/// to be a declared one, the window one of the side's, and the offset at most the side's `cap`.
 pub fn own_address(plan: &PairPlan, side: Side, window: u32, offset: u64) -> u64
     requires declared { IsPair plan.now }
     requires among { window < (side_plan_of plan.now side).windows }
@@ -120,14 +120,14 @@ pub fn own_address(plan: &PairPlan, side: Side, window: u32, offset: u64) -> u64
     u64::from(window) * side_plan(plan, side).cap + offset
 }
 
-/// The high half of a window's size, as it is in a scratchpad of 32 bits.
+/// Returns the high half of a window's size, as it is in a scratchpad of 32 bits.
 pub fn high_half(size: u64) -> u32
     ensures { result ≡ size / word }
 {
     (size / WORD) as u32
 }
 
-/// The low half of a window's size, as it is in a scratchpad of 32 bits.
+/// Returns the low half of a window's size, as it is in a scratchpad of 32 bits.
 pub fn low_half(size: u64) -> u32
     ensures { result ≡ size % word }
 {

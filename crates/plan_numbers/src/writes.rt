@@ -13,7 +13,7 @@ use crate::sides::speaks_five;
 use lane_model::CHUNK_SIZE;
 use step_kinds::{PairPlan, Side};
 
-/// How many chunks this many bytes are, at most 65,536.
+/// Returns how many chunks this many bytes are, at most 65,536.
 pub fn chunks_in(len: u32) -> u32
     requires { len ≤ most_frame_bytes }
     ensures value { result ≡ chunks_in len }
@@ -22,7 +22,8 @@ pub fn chunks_in(len: u32) -> u32
     len.div_ceil(CHUNK_SIZE)
 }
 
-/// How many writes the chunks, length, version, flags and doorbell of an entry of this many bytes, at most 65,536, are.
+/// Returns how many writes the chunks, length, version, flags and doorbell of an entry of this many bytes, at most
+/// 65,536, are.
 pub fn writes_in(len: u32) -> u32
     requires { len ≤ most_frame_bytes }
     ensures value { result ≡ chunks_in len + 4 }
@@ -31,7 +32,7 @@ pub fn writes_in(len: u32) -> u32
     chunks_in(len) + 4
 }
 
-/// How many entries of this many bytes, 1 to 65,536, a frame of at most 65,536 bytes takes: one at least.
+/// Returns how many entries of this many bytes, 1 to 65,536, a frame of at most 65,536 bytes takes: one at least.
 pub fn pieces_in(largest: u32, len: u32) -> u32
     requires some { 0 < largest }
     requires small { largest ≤ most_frame_bytes }
@@ -42,8 +43,8 @@ pub fn pieces_in(largest: u32, len: u32) -> u32
     ((len + largest - 1) / largest).max(1)
 }
 
-/// How many writes a frame of this many bytes, at most 65,536, has that a side of a declared pair sends on a queue. The
-/// queue has to be one of the side's.
+/// Returns how many writes a frame of this many bytes, at most 65,536, has that a side of a declared pair sends on a
+/// queue. The queue has to be one of the side's.
 pub fn posts_in(pair: &PairPlan, side: Side, queue: u32, len: u32) -> u32
     requires declared { IsPair pair.now }
     requires among { queue < (side_plan pair.now side).queues }

@@ -86,7 +86,7 @@ impl<W: Ordered> Part<W> for Block<W> {
     }
 }
 
-// Whether one of the writes before this place has the class that is waited for.
+// Returns whether one of the writes before this place has the class that is waited for.
 fn has_class_before<W: Ordered>(
     writes: &VecDeque<W>,
     place: usize,

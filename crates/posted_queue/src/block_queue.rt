@@ -22,7 +22,7 @@ impl<W: Ordered> BlockQueue<W> {
     ghost use Rattle.posted_queue.specs.Flight.{nothing_in_flight, promised, given_back, posted, discarded};
     ghost use Rattle.posted_queue.specs.Landing.{land_answer, after_landing};
 
-    /// A queue with nothing in flight and no room promised. It takes no memory yet.
+    /// Returns a queue with nothing in flight and no room promised. It takes no memory yet.
     pub fn new(alloc: Global) -> Self
         ensures { result ≡ nothing_in_flight }
     {
@@ -32,7 +32,7 @@ impl<W: Ordered> BlockQueue<W> {
         }
     }
 
-    /// How many writes are in flight.
+    /// Returns how many writes are in flight.
     #[inline]
     pub fn len(&self) -> usize
         ensures { result ≡ length self.now.writes }
@@ -40,7 +40,7 @@ impl<W: Ordered> BlockQueue<W> {
         self.blocks.len()
     }
 
-    /// How many more writes are promised.
+    /// Returns how many more writes are promised.
     #[inline]
     pub fn spare(&self) -> usize
         ensures { result ≡ self.now.spare }
@@ -48,8 +48,8 @@ impl<W: Ordered> BlockQueue<W> {
         self.spare
     }
 
-    /// The write at this place in flight, counted from 0 for the one that was posted first. `None` where no more
-    /// than `place` writes are in flight.
+    /// Returns the write at this place in flight, counted from 0 for the one that was posted first. `None` where no
+    /// more than `place` writes are in flight.
     pub fn label_at(&self, place: usize) -> Option<&W>
         ensures write { option_copied result ≡ slice_get self.now.writes place }
         ensures within { IsSome result ↔ (place < length self.now.writes) }
@@ -57,7 +57,7 @@ impl<W: Ordered> BlockQueue<W> {
         self.blocks.get(place)
     }
 
-    /// Whether the write at this place in flight may land: it is there, and may pass each write before it.
+    /// Returns whether the write at this place in flight may land: it is there, and may pass each write before it.
     pub fn may_land(&self, place: usize) -> bool
         ensures { result ≡ may_land (map W.order self.now.writes) place }
     {
@@ -181,7 +181,7 @@ fn make_room<W: Ordered>(blocks: &mut Blocks<W>, count: usize) -> Result<(), All
     Ok(())
 }
 
-// The class of which the write at this place passes no earlier one: none where it passes all.
+// Returns the class of which the write at this place passes no earlier one: none where it passes all.
 fn class_awaited_at<W: Ordered>(blocks: &Blocks<W>, place: usize) -> Option<usize>
     requires { place < length blocks.now.writes }
     ensures lands { not (is_held_back W.order result (take place blocks.now.writes)) ≡ may_land (map W.order blocks.now.writes) place }
@@ -193,7 +193,7 @@ fn class_awaited_at<W: Ordered>(blocks: &Blocks<W>, place: usize) -> Option<usiz
     }
 }
 
-// The class of which this write passes no earlier one: none where it may pass a strict one, and so any.
+// Returns the class of which this write passes no earlier one: none where it may pass a strict one, and so any.
 fn class_awaited<W: Ordered>(write: &W) -> Option<usize>
     ensures class { result ≡ awaited (W.order write.now) }
     ensures small { IfSome result (λ class. class < 8) }

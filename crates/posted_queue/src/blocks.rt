@@ -34,7 +34,7 @@ impl<W: Ordered> Blocks<W> {
         }
     }
 
-    /// How many writes they have.
+    /// Returns how many writes they have.
     #[inline]
     pub fn len(&self) -> usize
         ensures { result ≡ length self.now.writes }
@@ -42,7 +42,7 @@ impl<W: Ordered> Blocks<W> {
         self.front.len() + self.rest.len()
     }
 
-    /// Whether this many writes can be pushed with no further memory.
+    /// Returns whether this many writes can be pushed with no further memory.
     #[inline]
     pub fn has_room(&self, count: usize) -> bool
         ensures { IsTrue result ↔ (count ≤ self.now.spare) }
@@ -54,7 +54,7 @@ impl<W: Ordered> Blocks<W> {
         count <= front || count - front <= self.rest.room()
     }
 
-    /// The write at this place, or `None` past the last.
+    /// Returns the write at this place, or `None` past the last.
     #[inline]
     pub fn get(&self, place: usize) -> Option<&W>
         ensures { option_copied result ≡ slice_get self.now.writes place }
@@ -66,7 +66,7 @@ impl<W: Ordered> Blocks<W> {
         self.rest.get(place - front)
     }
 
-    /// Whether a write before this place has the class that is waited for.
+    /// Returns whether a write before this place has the class that is waited for.
     pub fn is_blocked(&self, place: usize, waits_for: Option<usize>) -> bool
         requires there { place < length self.now.writes }
         requires class { ForSome waits_for (λ class. class < 8) }

@@ -30,12 +30,12 @@ mod ticket;
 pub trait Ordered {
     ghost order: { Self → Order };
 
-    /// The write's kind: [`order_rules::RELAXED`] or [`order_rules::STRICT`].
+    /// Returns the write's kind: [`order_rules::RELAXED`] or [`order_rules::STRICT`].
     fn kind(&self) -> usize
         ensures value { result ≡ (order self.now).kind }
         ensures small { result < 2 };
 
-    /// The write's traffic class, below 8. A write of which nothing is said has class 0.
+    /// Returns the write's traffic class, below 8. A write of which nothing is said has class 0.
     fn class(&self) -> u32
         ensures value { result ≡ (order self.now).class }
         ensures small { result < 8 };
@@ -66,7 +66,7 @@ impl<W: Ordered> Queue<W> {
     ghost use Rattle.posted_queue.specs.Flight.{nothing_in_flight, promised, given_back, posted, discarded};
     ghost use Rattle.posted_queue.specs.Landing.{land_answer, after_landing};
 
-    /// A queue with nothing in flight and no room promised. It takes no memory yet.
+    /// Returns a queue with nothing in flight and no room promised. It takes no memory yet.
     pub fn new(alloc: Global) -> Self
         ensures { result ≡ nothing_in_flight }
     {
@@ -76,7 +76,7 @@ impl<W: Ordered> Queue<W> {
         }
     }
 
-    /// How many writes are in flight.
+    /// Returns how many writes are in flight.
     #[inline]
     pub fn len(&self) -> usize
         ensures { result ≡ length self.now.writes }
@@ -84,14 +84,14 @@ impl<W: Ordered> Queue<W> {
         self.tickets.len()
     }
 
-    /// Whether no write is in flight.
+    /// Returns whether no write is in flight.
     pub fn is_empty(&self) -> bool
         ensures { result ≡ (length self.now.writes == 0) }
     {
         self.len() == 0
     }
 
-    /// How many more writes are promised.
+    /// Returns how many more writes are promised.
     #[inline]
     pub fn spare(&self) -> usize
         ensures { result ≡ self.now.spare }
@@ -99,8 +99,8 @@ impl<W: Ordered> Queue<W> {
         self.tickets.spare()
     }
 
-    /// The write at this place in flight, counted from 0 for the one that was posted first. `None` where no more
-    /// than `place` writes are in flight.
+    /// Returns the write at this place in flight, counted from 0 for the one that was posted first. `None` where no
+    /// more than `place` writes are in flight.
     pub fn label_at(&self, place: usize) -> Option<&W>
         ensures write { option_copied result ≡ slice_get self.now.writes place }
         ensures within { IsSome result ↔ (place < length self.now.writes) }
@@ -108,8 +108,8 @@ impl<W: Ordered> Queue<W> {
         self.write_at(place)
     }
 
-    /// Whether [`Queue::land`] would land the write at this place in flight: it is there, and may pass each write
-    /// before it (PCI Express Base 4.0, section 2.4).
+    /// Returns whether [`Queue::land`] would land the write at this place in flight: it is there, and may pass each
+    /// write before it (PCI Express Base 4.0, section 2.4).
     pub fn may_land(&self, place: usize) -> bool
         ensures { result ≡ may_land (map W.order self.now.writes) place }
     {
@@ -185,7 +185,7 @@ impl<W: Ordered> Queue<W> {
         self.writes.clear();
     }
 
-    // The write that the ticket at this place represents.
+    // Returns the write that the ticket at this place represents.
     fn write_at(&self, place: usize) -> Option<&W>
         ensures { option_copied result ≡ slice_get self.now.writes place }
     {

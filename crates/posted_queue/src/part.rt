@@ -15,20 +15,20 @@ pub trait Part<W: Ordered>: Sized {
     // How many writes an empty part can take.
     ghost most: { ℕ };
 
-    /// A part with no write. It takes no memory yet.
+    /// Returns a part with no write. It takes no memory yet.
     fn empty(alloc: Global) -> Self
         ensures writes { (state result).writes ≡ [] }
         ensures left { (state result).left ≡ most };
 
-    /// How many writes can be pushed with no further memory.
+    /// Returns how many writes can be pushed with no further memory.
     fn room(&self) -> usize
         ensures { result ≡ (state self.now).spare };
 
-    /// The write at this place, or `None` past the last.
+    /// Returns the write at this place, or `None` past the last.
     fn get(&self, place: usize) -> Option<&W>
         ensures { option_copied result ≡ slice_get (state self.now).writes place };
 
-    /// Whether a write before this place has the class that is waited for.
+    /// Returns whether a write before this place has the class that is waited for.
     fn is_blocked(&self, place: usize, waits_for: Option<usize>) -> bool
         requires there { place < length (state self.now).writes }
         requires class { ForSome waits_for (λ class. class < 8) }

@@ -20,7 +20,7 @@ pub struct Counted<W: Ordered, P: Part<W>> {
 }
 
 impl<W: Ordered, P: Part<W>> Counted<W, P> {
-    /// A part with no write. It takes no memory yet.
+    /// Returns a part with no write. It takes no memory yet.
     pub fn empty(alloc: Global) -> Self
         ensures writes { result.writes ≡ [] }
         ensures left { result.left ≡ P.most }
@@ -33,7 +33,7 @@ impl<W: Ordered, P: Part<W>> Counted<W, P> {
         }
     }
 
-    /// How many writes it has.
+    /// Returns how many writes it has.
     #[inline]
     pub fn len(&self) -> usize
         ensures { result ≡ length self.now.writes }
@@ -41,7 +41,7 @@ impl<W: Ordered, P: Part<W>> Counted<W, P> {
         self.len
     }
 
-    /// How many writes can be pushed with no further memory.
+    /// Returns how many writes can be pushed with no further memory.
     #[inline]
     pub fn room(&self) -> usize
         ensures { result ≡ self.now.spare }
@@ -49,7 +49,7 @@ impl<W: Ordered, P: Part<W>> Counted<W, P> {
         self.part.room()
     }
 
-    /// Whether one of its writes has the class that is waited for.
+    /// Returns whether one of its writes has the class that is waited for.
     #[inline]
     pub fn holds_back(&self, waits_for: Option<usize>) -> bool
         requires { ForSome waits_for (λ class. class < 8) }
@@ -61,7 +61,7 @@ impl<W: Ordered, P: Part<W>> Counted<W, P> {
         }
     }
 
-    /// The write at this place, or `None` past the last.
+    /// Returns the write at this place, or `None` past the last.
     #[inline]
     pub fn get(&self, place: usize) -> Option<&W>
         ensures { option_copied result ≡ slice_get self.now.writes place }
@@ -69,7 +69,7 @@ impl<W: Ordered, P: Part<W>> Counted<W, P> {
         self.part.get(place)
     }
 
-    /// Whether a write before this place has the class that is waited for.
+    /// Returns whether a write before this place has the class that is waited for.
     pub fn is_blocked(&self, place: usize, waits_for: Option<usize>) -> bool
         requires there { place < length self.now.writes }
         requires class { ForSome waits_for (λ class. class < 8) }

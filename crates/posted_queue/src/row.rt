@@ -50,7 +50,7 @@ pub fn find_spot<W: Ordered, P: Part<W>>(
     None
 }
 
-/// The first part that has a write, of a row that has one.
+/// Returns the first part that has a write, of a row that has one.
 #[inline]
 pub fn first_with_write<W: Ordered, P: Part<W>>(row: &[Counted<W, P>]) -> usize
     requires { 0 < length (writes_in row.now) }
@@ -63,7 +63,7 @@ pub fn first_with_write<W: Ordered, P: Part<W>>(row: &[Counted<W, P>]) -> usize
     index
 }
 
-/// The first part from this one on that has room, where some of these has.
+/// Returns the first part from this one on that has room, where some of these has.
 #[inline]
 pub fn first_with_room<W: Ordered, P: Part<W>>(row: &[Counted<W, P>], from: usize) -> usize
     requires { 0 < room_in (drop from row.now) }

@@ -14,7 +14,7 @@ pub struct Ticket {
 }
 
 impl Ticket {
-    /// The ticket of the write at this key, which has this kind, below 2, and this traffic class, below 8.
+    /// Returns the ticket of the write at this key, which has this kind, below 2, and this traffic class, below 8.
     #[inline]
     pub fn new(key: usize, kind: usize, class: u32) -> Self
         requires kind { kind < 2 }

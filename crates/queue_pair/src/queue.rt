@@ -33,8 +33,8 @@ impl QueuePair {
     ghost use Rattle.queue_pair.specs.Queue.{fresh_queue, with_port};
     ghost use Rattle.queue_pair.specs.Same.{IsSameQueue};
 
-    /// The queue pair of one of a side's queues, open, with nothing sent and nothing received. The plan has to be one
-    /// that a script can declare. It takes no memory yet.
+    /// Returns the queue pair of one of a side's queues, open, with nothing sent and nothing received. The plan has to
+    /// be one that a script can declare. It takes no memory yet.
     pub fn new(alloc: Global, plan: &PairPlan, side: Side, queue: u32) -> QueuePair
         requires among { queue < (side_plan_of plan.now side).queues }
         requires declared { IsPair plan.now }
@@ -166,7 +166,7 @@ impl QueuePair {
         self.port.copy(pair)
     }
 
-    /// The frame that the next [`QueuePair::copy`] delivers, as [`Port::frame_due`].
+    /// Returns the frame that the next [`QueuePair::copy`] delivers, as [`Port::frame_due`].
     ///
     /// # Errors
     ///
@@ -199,9 +199,9 @@ impl QueuePair {
         self.port.ack(pair)
     }
 
-    /// Whether two queue pairs of one queue are in the same state, so that no later call tells them apart: whether they
-    /// are closed, and their ports, as [`Port::is_same`]. Both have to be of one plan, side and queue. It takes no
-    /// memory.
+    /// Returns whether two queue pairs of one queue are in the same state, so that no later call tells them apart:
+    /// whether they are closed, and their ports, as [`Port::is_same`]. Both have to be of one plan, side and queue. It
+    /// takes no memory.
     pub fn is_same(&self, other: &QueuePair) -> bool
         requires plan { self.now.port.plan ≡ other.now.port.plan }
         requires side { self.now.port.side ≡ other.now.port.side }
@@ -211,7 +211,7 @@ impl QueuePair {
         self.closed == other.closed && self.port.is_same(&other.port)
     }
 
-    /// A queue pair in the same state.
+    /// Returns a queue pair in the same state.
     ///
     /// # Errors
     ///
@@ -225,8 +225,8 @@ impl QueuePair {
         })
     }
 
-    /// What [`QueuePair::begin`] answers for a frame of `len` bytes, at most 65,536, unless out of memory. It takes no
-    /// memory.
+    /// Returns what [`QueuePair::begin`] answers for a frame of `len` bytes, at most 65,536, unless out of memory. It
+    /// takes no memory.
     pub fn begin_answer(&self, pair: &Pair, len: u32) -> BeginAnswer
         requires plan { pair.now.plan ≡ self.now.port.plan }
         requires fits { is_joined self.now pair.now ≡ true → FitsRings self.now.port.plan }
@@ -239,7 +239,7 @@ impl QueuePair {
         answer_of_begun(self.port.begin_answer(pair, len))
     }
 
-    /// What [`QueuePair::look`] answers, unless out of memory. It takes no memory.
+    /// Returns what [`QueuePair::look`] answers, unless out of memory. It takes no memory.
     pub fn look_answer(&self, pair: &Pair) -> LookAnswer
         requires plan { pair.now.plan ≡ self.now.port.plan }
         requires fits { is_joined self.now pair.now ≡ true → FitsRings self.now.port.plan }
@@ -254,8 +254,8 @@ impl QueuePair {
         }
     }
 
-    /// Whether [`QueuePair::begin`] would be refused for a frame of `len` bytes, 1 to 65,536, whatever room the ring
-    /// has: with `LinkDown`, `NotReady`, `Closed`, `TooLong` or `Busy`. It takes no memory.
+    /// Returns whether [`QueuePair::begin`] would be refused for a frame of `len` bytes, 1 to 65,536, whatever room the
+    /// ring has: with `LinkDown`, `NotReady`, `Closed`, `TooLong` or `Busy`. It takes no memory.
     pub fn refuses(&self, pair: &Pair, len: u32) -> bool
         requires some { 0 < len }
         requires most { len ≤ most_frame_bytes }
@@ -265,7 +265,7 @@ impl QueuePair {
         self.sender_refusal(pair).is_some() || self.port.refuses(len)
     }
 
-    /// The free entries of the ring that the side sends to on the queue, as [`Port::free`]. It takes no memory.
+    /// Returns the free entries of the ring that the side sends to on the queue, as [`Port::free`]. It takes no memory.
     pub fn free(&self, pair: &Pair) -> u32
         requires { pair.now.plan ≡ self.now.port.plan }
         ensures { result ≡ free_answer self.now.port pair.now }
@@ -285,7 +285,7 @@ impl QueuePair {
         self.closed = false;
     }
 
-    // Whether the queue is joined on this side.
+    // Returns whether the queue is joined on this side.
     fn is_joined(&self, pair: &Pair) -> bool
         ensures { result ≡ is_joined self.now pair.now }
     {
@@ -316,7 +316,7 @@ impl Model for QueuePair {
     ghost view = { λ queue. record { port = queue.port; closed = queue.closed } };
 }
 
-// What the port's beginning is for the queue.
+// Returns what the port's beginning is for the queue.
 fn answer_of_begun(begun: Begun) -> BeginAnswer
     ensures { result ≡ begun_answer begun }
 {
@@ -328,7 +328,7 @@ fn answer_of_begun(begun: Begun) -> BeginAnswer
     }
 }
 
-// What the port's look is for the queue.
+// Returns what the port's look is for the queue.
 fn answer_of_look(look: RingLook) -> LookAnswer
     ensures { result ≡ answer_of_ring look }
 {

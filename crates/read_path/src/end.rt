@@ -24,7 +24,8 @@ pub struct End {
 }
 
 impl End {
-    /// A side whose bytes are all 0, with nothing in flight and no read made. Returns an error if memory runs out.
+    /// Returns a side whose bytes are all 0, with nothing in flight and no read made. Returns an error if memory runs
+    /// out.
     pub fn new(alloc: Global) -> Result<End, AllocError>
         ensures fresh { IfOk result (λ end. end_seen end ≡ fresh_end) }
         ensures whole { IfOk result (λ end. IsEnd end) }

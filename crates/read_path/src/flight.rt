@@ -41,7 +41,7 @@ pub enum InFlight {
 }
 
 impl InFlight {
-    /// The kind by which the table of order knows it.
+    /// Returns the kind by which the table of order knows it.
     pub fn kind(&self) -> usize
         ensures value { result ≡ kind_of (flying_of self.now) }
         ensures small { result < 4 }
@@ -109,7 +109,7 @@ impl Flight {
         self.spare -= 1;
     }
 
-    /// Whether what stands at this place may land: it stands there, and may pass each of those before it.
+    /// Returns whether what stands at this place may land: it stands there, and may pass each of those before it.
     pub fn may_land(&self, place: usize) -> bool
         ensures { result ≡ may_land self.now.flying place }
     {
@@ -151,7 +151,7 @@ impl Flight {
         }
     }
 
-    // Whether one of this kind may pass each of the first this many.
+    // Returns whether one of this kind may pass each of the first this many.
     fn passes(&self, kind: usize, count: usize) -> bool
         requires kind { kind < 4 }
         requires within { count ≤ length self.now.flying }

@@ -27,7 +27,7 @@ pub struct Path {
 }
 
 impl Path {
-    /// A path whose link is up in session 1, with each byte 0, nothing in flight and no read made.
+    /// Returns a path whose link is up in session 1, with each byte 0, nothing in flight and no read made.
     ///
     /// # Errors
     ///
@@ -75,9 +75,9 @@ impl Path {
         Ok(PostAnswer::Ok)
     }
 
-    /// The side asks for `len` bytes, 1 to 512, of its peer's memory from the address `at` on. All have to lie in the
-    /// memory. The answer has the number of the read: a side's reads count from 0, whatever sessions they are in.
-    /// [`ReadAnswer::LinkDown`] is returned if and only if the link isn't up.
+    /// Returns the side asks for `len` bytes, 1 to 512, of its peer's memory from the address `at` on. All have to lie
+    /// in the memory. The answer has the number of the read: a side's reads count from 0, whatever sessions they are
+    /// in. [`ReadAnswer::LinkDown`] is returned if and only if the link isn't up.
     ///
     /// Room is taken here for the completions and for the bytes.
     ///
@@ -172,7 +172,7 @@ impl Path {
         Ok(())
     }
 
-    /// The side's own memory: `len` bytes from the address `at` on, which have to lie in it.
+    /// Returns the side's own memory: `len` bytes from the address `at` on, which have to lie in it.
     ///
     /// # Errors
     ///
@@ -189,7 +189,7 @@ impl Path {
         Ok(Frame::of_vec(bytes))
     }
 
-    // Whether the link is up.
+    // Returns whether the link is up.
     fn is_up(&self) -> bool
         ensures { result ≡ is_up self.now.link }
     {

@@ -77,7 +77,7 @@ fn push_answer(text: &mut Vec<u8>, answer: &PathAnswer) -> Result<(), AllocError
     }
 }
 
-// The word of what came of a posted write.
+// Returns the word of what came of a posted write.
 fn post_word(answer: PostAnswer) -> &'static str
     ensures { result.now ≡ post_text answer }
 {
@@ -117,7 +117,7 @@ fn push_landing(text: &mut Vec<u8>, answer: &PathLand) -> Result<(), AllocError>
     }
 }
 
-// The word of what came of a step of the link.
+// Returns the word of what came of a step of the link.
 fn link_word(refusal: &Option<LinkRefusal>) -> &'static str
     ensures { result.now ≡ link_text refusal.now }
 {
@@ -127,7 +127,7 @@ fn link_word(refusal: &Option<LinkRefusal>) -> &'static str
     }
 }
 
-// The word of a refusal. A path's sides are cleaned and enabled with its link, so the last two never come.
+// Returns the word of a refusal. A path's sides are cleaned and enabled with its link, so the last two never come.
 fn refusal_word(refusal: LinkRefusal) -> &'static str
     ensures { result.now ≡ refusal_text refusal }
 {

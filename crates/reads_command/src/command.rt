@@ -8,9 +8,9 @@ use crate::reply::{ReadsError, reads_text};
 use command_reply::Reply;
 use std::alloc::{AllocError, Global};
 
-/// The reply of `reads` to a text of at most 16,777,216 bytes. With status 0 it is a line `LINE ANSWER` for each step,
-/// and `end`. With status 3 it is `refused line L badline`, for the first bad line. If the status is 0, each read in
-/// the log of the steps has pushed the posted writes before it. Returns an error if memory runs out.
+/// Returns the reply of `reads` to a text of at most 16,777,216 bytes. With status 0 it is a line `LINE ANSWER` for
+/// each step, and `end`. With status 3 it is `refused line L badline`, for the first bad line. If the status is 0, each
+/// read in the log of the steps has pushed the posted writes before it. Returns an error if memory runs out.
 pub fn reads_reply(alloc: Global, bytes: &[u8]) -> Result<Reply, AllocError>
     requires { length bytes.now ≤ most_script_bytes }
     ensures { IfOk result (IsReadsOf bytes.now) }

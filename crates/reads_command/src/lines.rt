@@ -15,7 +15,7 @@ use script_words::{Cause, ReadError};
 use std::alloc::Global;
 use step_kinds::limits::{MOST_STEPS, MOST_WRITE_BYTES};
 
-/// The order that a word spells: whether a write is relaxed.
+/// Returns the order that a word spells: whether a write is relaxed.
 fn read_order(word: &[u8]) -> Option<bool>
     ensures { result ≡ rules.order_of word.now }
 {
@@ -28,7 +28,7 @@ fn read_order(word: &[u8]) -> Option<bool>
     }
 }
 
-/// Whether this many bytes from an address on leave a side's memory.
+/// Returns whether this many bytes from an address on leave a side's memory.
 fn leaves_memory(at: u32, len: u32) -> bool
     ensures { result ≡ rules.leaves_memory at len }
 {
@@ -100,7 +100,7 @@ fn show_step(side: &[u8], at: &[u8], len: &[u8]) -> Result<PathStep, ReadError>
     Ok(PathStep::Show { side, at, len })
 }
 
-/// A step of the link, which is one word.
+/// Returns a step of the link, which is one word.
 fn link_step(word: &[u8]) -> Result<PathStep, ReadError>
     ensures step { Reads result (rules.link_step word.now) }
     ensures fits { IfOk result Fits }
@@ -116,7 +116,7 @@ fn link_step(word: &[u8]) -> Result<PathStep, ReadError>
     }
 }
 
-/// A step with a side, an address and a length.
+/// Returns a step with a side, an address and a length.
 fn range_step(word: &[u8], side: &[u8], at: &[u8], len: &[u8]) -> Result<PathStep, ReadError>
     ensures step { Reads result (rules.range_step word.now side.now at.now len.now) }
     ensures fits { IfOk result Fits }
@@ -130,7 +130,7 @@ fn range_step(word: &[u8], side: &[u8], at: &[u8], len: &[u8]) -> Result<PathSte
     }
 }
 
-/// A step with a side and a place.
+/// Returns a step with a side and a place.
 fn place_step(word: &[u8], side: &[u8], place: &[u8]) -> Result<PathStep, ReadError>
     ensures step { Reads result (rules.place_step word.now side.now place.now) }
     ensures fits { IfOk result Fits }
@@ -142,7 +142,7 @@ fn place_step(word: &[u8], side: &[u8], place: &[u8]) -> Result<PathStep, ReadEr
     }
 }
 
-/// A step with a side, an address, bytes and an order.
+/// Returns a step with a side, an address, bytes and an order.
 fn bytes_step(
     alloc: Global,
     word: &[u8],
@@ -161,7 +161,7 @@ fn bytes_step(
     }
 }
 
-/// The step of a line's words.
+/// Returns the step of a line's words.
 fn step_of(alloc: Global, words: &[&[u8]]) -> Result<PathStep, ReadError>
     ensures step { Reads result (rules.step_of (map (λ word. word.now) words.now)) }
     ensures fits { IfOk result Fits }
@@ -176,7 +176,7 @@ fn step_of(alloc: Global, words: &[&[u8]]) -> Result<PathStep, ReadError>
     }
 }
 
-/// Whether these are the words of the first line.
+/// Returns whether these are the words of the first line.
 fn is_header(words: &[&[u8]]) -> bool
     ensures { result ≡ rules.is_header (map (λ word. word.now) words.now) }
 {
@@ -186,7 +186,7 @@ fn is_header(words: &[&[u8]]) -> bool
     }
 }
 
-/// The first line.
+/// Returns the first line.
 fn header_line<'a>(words: &mut Vec<&'a [u8]>, line: &'a [u8]) -> Result<Option<PathStep>, ReadError>
     ensures step { Reads result (rules.header_line line.now) }
     ensures none { IfOk result (λ step. step ≡ None) }
@@ -200,8 +200,8 @@ fn header_line<'a>(words: &mut Vec<&'a [u8]>, line: &'a [u8]) -> Result<Option<P
     Ok(None)
 }
 
-/// The step that line `number` gives, where this many steps stand before it: the first line, a comment and a line
-/// without words give none. Its words are read into `words`.
+/// Returns the step that line `number` gives, where this many steps stand before it: the first line, a comment and a
+/// line without words give none. Its words are read into `words`.
 ///
 /// Line 1, and each other line that has words and is no comment, may have a fault. It is the first of these:
 ///

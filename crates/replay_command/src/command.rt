@@ -16,7 +16,7 @@ use script_plan::Script;
 use script_text::{ParseError, read_script};
 use std::alloc::{AllocError, Global};
 
-/// The reply of `replay` to a script of at most 16,777,216 bytes. It is the report of the plan that the script
+/// Returns the reply of `replay` to a script of at most 16,777,216 bytes. It is the report of the plan that the script
 /// declares, with status 0, or the first line with a fault, with status 3. Returns an error if memory runs out.
 pub fn replay_reply(alloc: Global, bytes: &[u8]) -> Result<Reply, AllocError>
     requires { length bytes.now ≤ most_script_bytes }
@@ -29,7 +29,7 @@ pub fn replay_reply(alloc: Global, bytes: &[u8]) -> Result<Reply, AllocError>
     }
 }
 
-// The reply to a script without a fault.
+// Returns the reply to a script without a fault.
 fn report(alloc: Global, script: &Script) -> Result<Reply, AllocError>
     requires { IsWhole (plan_in script.now) }
     ensures { IfOk result (λ reply. reply ≡ done (text_of_plan (plan_in script.now))) }
@@ -37,8 +37,8 @@ fn report(alloc: Global, script: &Script) -> Result<Reply, AllocError>
     Ok(Reply::done(replay_text(alloc, script)?))
 }
 
-/// The reply of `load`: the summary of a generated load of 1 to 30,000 frames, with status 0. Returns an error if
-/// memory runs out.
+/// Returns the reply of `load`: the summary of a generated load of 1 to 30,000 frames, with status 0. Returns an error
+/// if memory runs out.
 pub fn load_reply(alloc: Global, seed: u64, frames: u32) -> Result<Reply, AllocError>
     requires some { 1 ≤ frames }
     requires few { frames ≤ most_load_frames }

@@ -60,8 +60,8 @@ impl KeepsAnswers for BlockedCount {
     }
 }
 
-/// The summary of a generated load of 1 to 30,000 frames: how many were accepted and delivered, and how many landings
-/// were refused by the order rules. Returns an error if memory runs out.
+/// Returns the summary of a generated load of 1 to 30,000 frames: how many were accepted and delivered, and how many
+/// landings were refused by the order rules. Returns an error if memory runs out.
 pub fn load_text(alloc: Global, seed: u64, frames: u32) -> Result<Vec<u8>, AllocError>
     requires some { 1 ≤ frames }
     requires few { frames ≤ most_load_frames }
@@ -73,7 +73,7 @@ pub fn load_text(alloc: Global, seed: u64, frames: u32) -> Result<Vec<u8>, Alloc
     summary(alloc, seed, frames, accepted, delivered, blocked)
 }
 
-// The cluster of a load before any step.
+// Returns the cluster of a load before any step.
 fn new_cluster(alloc: Global) -> Result<Cluster, AllocError>
     ensures { (seed frames : ℕ) → IfOk result (λ cluster. HasReplayed (load_of seed frames) [] cluster) }
 {
@@ -81,7 +81,7 @@ fn new_cluster(alloc: Global) -> Result<Cluster, AllocError>
     Cluster::new(alloc, &plan)
 }
 
-// The line that sums a load up.
+// Returns the line that sums a load up.
 fn summary(
     alloc: Global,
     seed: u64,
@@ -120,7 +120,7 @@ fn count_blocked(
     Ok(blocked.count)
 }
 
-// Whether an answer is `blocked`.
+// Returns whether an answer is `blocked`.
 fn is_blocked(answer: &Answer) -> bool
     ensures { result ≡ is_blocked_answer answer.now }
 {

@@ -46,8 +46,8 @@ impl KeepsAnswers for ReportLines {
     }
 }
 
-/// The report of a script: the answers to its steps, what its lanes accepted and delivered in each session, and what
-/// its devices counted. Its plan has to be whole (`IsWhole`). It may be out of memory.
+/// Returns the report of a script: the answers to its steps, what its lanes accepted and delivered in each session, and
+/// what its devices counted. Its plan has to be whole (`IsWhole`). It may be out of memory.
 pub fn replay_text(alloc: Global, script: &Script) -> Result<Vec<u8>, AllocError>
     requires { IsWhole (plan_in script.now) }
     ensures { IfOk result (λ text. text.items ≡ text_of_plan (plan_in script.now)) }
@@ -56,7 +56,7 @@ pub fn replay_text(alloc: Global, script: &Script) -> Result<Vec<u8>, AllocError
     text_by(alloc, script, &mut cluster)
 }
 
-// The report of a script, whose steps a cluster makes that has made none.
+// Returns the report of a script, whose steps a cluster makes that has made none.
 fn text_by(alloc: Global, script: &Script, cluster: &mut Cluster) -> Result<Vec<u8>, AllocError>
     requires whole { IsWhole (plan_in script.now) }
     requires made { HasReplayed (plan_in script.now) [] cluster.old }

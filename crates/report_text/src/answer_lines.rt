@@ -68,7 +68,7 @@ impl AnswerLines {
         push_repeated(&mut self.text, &mut self.block, &self.again, count)
     }
 
-    /// All lines. Returns an error if memory runs out.
+    /// Returns all lines. Returns an error if memory runs out.
     pub fn into_text(self) -> Result<Vec<u8>, AllocError>
         ensures { IfOk result (λ text. text.items ≡ self) }
     {

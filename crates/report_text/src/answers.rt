@@ -15,7 +15,8 @@ const LABEL_ROOM: usize = 68;
 /// The most bytes of an answer's text before its bytes: a word of five letters, a number, a space and a label.
 pub const START_ROOM: usize = 95;
 
-/// The text of an answer, as it is in a report after the number of its line. Returns an error if memory runs out.
+/// Returns the text of an answer, as it is in a report after the number of its line. Returns an error if memory runs
+/// out.
 pub fn text_of(alloc: Global, answer: &Answer) -> Result<Vec<u8>, AllocError>
     ensures { IfOk result (λ text. text.items ≡ answer_text answer.now) }
 {

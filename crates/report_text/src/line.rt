@@ -96,7 +96,7 @@ impl LineText {
         self.len = 0;
     }
 
-    /// How many bytes there are.
+    /// Returns how many bytes there are.
     #[inline]
     pub fn len(&self) -> usize
         ensures { result ≡ length self.now }
@@ -104,7 +104,7 @@ impl LineText {
         self.len
     }
 
-    /// The text.
+    /// Returns the text.
     #[inline]
     pub fn as_slice(&self) -> &[u8]
         ensures { result.now ≡ self.now }

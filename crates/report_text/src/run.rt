@@ -18,9 +18,10 @@ struct FrameCounts {
     left: u64,
 }
 
-/// The text of a threaded run: for each lane of the record the lines of its sessions, from session 1 on, and then
-/// `end`. A session has a line with how many frames were accepted, delivered and left. Then come these frames, numbered
-/// from 0 in each session, those that were left after those that were delivered. Returns an error if memory runs out.
+/// Returns the text of a threaded run: for each lane of the record the lines of its sessions, from session 1 on, and
+/// then `end`. A session has a line with how many frames were accepted, delivered and left. Then come these frames,
+/// numbered from 0 in each session, those that were left after those that were delivered. Returns an error if memory
+/// runs out.
 ///
 /// Each lane names a pair of the plan.
 pub fn record_text(alloc: Global, plan: &Plan, run: &RunRecord) -> Result<Vec<u8>, AllocError>

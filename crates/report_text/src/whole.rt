@@ -9,9 +9,9 @@ use crate::append::{push_numbers, push_word};
 use std::alloc::{AllocError, Global};
 use step_kinds::{Counters, DevPlan, LaneCount, LaneName, LineAnswer, PairPlan, Plan, Side};
 
-/// The report of a replay: a line for each answer in order, with the number of its script line. Then come a line for
-/// each lane and session where a frame was accepted or delivered, a line for each device of the plan, and `end`.
-/// Returns an error if memory runs out.
+/// Returns the report of a replay: a line for each answer in order, with the number of its script line. Then come a
+/// line for each lane and session where a frame was accepted or delivered, a line for each device of the plan, and
+/// `end`. Returns an error if memory runs out.
 ///
 /// Each lane names a pair of the plan, and there are as many counters as the plan has devices.
 pub fn report(
@@ -98,7 +98,7 @@ pub fn push_lane(
     push_numbers(text, &[u64::from(lane.queue), session])
 }
 
-/// A side after a space.
+/// Returns a side after a space.
 pub(crate) fn side_word(side: Side) -> &'static str
     ensures { result.now ≡ 32 ∷ side_text side }
 {

@@ -7,7 +7,7 @@ use byteorder::{ByteOrder, LittleEndian};
 use std::alloc::{AllocError, Global};
 use step_kinds::Frame;
 
-/// The frame that says a number. Returns an error if memory runs out.
+/// Returns the frame that says a number. Returns an error if memory runs out.
 pub fn number_frame(alloc: Global, number: u32) -> Result<Frame, AllocError>
     ensures { IfOk result (λ frame. frame ≡ number_frame number) }
 {
@@ -16,7 +16,7 @@ pub fn number_frame(alloc: Global, number: u32) -> Result<Frame, AllocError>
     Ok(Frame::of_vec(Vec::from_slice(alloc, &bytes)?))
 }
 
-/// The number that a frame says, and `None` if and only if it hasn't four bytes.
+/// Returns the number that a frame says, and `None` if and only if it hasn't four bytes.
 pub fn number_in(frame: &Frame) -> Option<u32>
     ensures { result ≡ number_in frame.now }
 {

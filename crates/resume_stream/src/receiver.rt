@@ -21,8 +21,8 @@ pub struct StreamReceiver {
 }
 
 impl StreamReceiver {
-    /// A receiver that keeps nothing, at the start of its first session. It takes no memory; the allocator is kept for
-    /// the calls that do.
+    /// Returns a receiver that keeps nothing, at the start of its first session. It takes no memory; the allocator is
+    /// kept for the calls that do.
     pub fn new(alloc: Global) -> StreamReceiver
         ensures { result ≡ new_receiver }
     {
@@ -71,22 +71,22 @@ impl StreamReceiver {
         }
     }
 
-    /// The acknowledgement: a frame of four bytes that says how many items are kept. Returns an error if memory runs
-    /// out.
+    /// Returns the acknowledgement: a frame of four bytes that says how many items are kept. Returns an error if memory
+    /// runs out.
     pub fn ack_frame(&self) -> Result<Frame, AllocError>
         ensures { IfOk result (λ frame. frame ≡ ack_frame self.now) }
     {
         number_frame(self.alloc, self.items.len() as u32)
     }
 
-    /// The items that are kept, in order.
+    /// Returns the items that are kept, in order.
     pub fn items(&self) -> &FrameList
         ensures { result.now.frames ≡ self.now.items }
     {
         &self.items
     }
 
-    /// The items that were kept, in order. It takes no memory.
+    /// Returns the items that were kept, in order. It takes no memory.
     pub fn into_items(self) -> FrameList
         ensures { result.frames ≡ self.items }
     {
@@ -112,7 +112,8 @@ impl Model for StreamReceiver {
     ghost invariant = { λ receiver. IsReceiver receiver.items.frames receiver.session };
 }
 
-// What a session's first frame is to a receiver that keeps this many items, and where the receiver stands after it.
+// Returns what a session's first frame is to a receiver that keeps this many items, and where the receiver stands after
+// it.
 fn first_frame(frame: &Frame, count: u32) -> (TakeAnswer, Session)
     ensures answer { result.0 ≡ start_answer count (number_in frame.now) }
     ensures session { result.1 ≡ session_from count (number_in frame.now) }

@@ -24,8 +24,8 @@ pub struct StreamSender {
 }
 
 impl StreamSender {
-    /// A sender of these items, at the start of its first session: nothing was given or acknowledged. There are fewer
-    /// than 2^32 - 1 items. It takes no memory; the allocator is kept for [`StreamSender::next_frame`].
+    /// Returns a sender of these items, at the start of its first session: nothing was given or acknowledged. There are
+    /// fewer than 2^32 - 1 items. It takes no memory; the allocator is kept for [`StreamSender::next_frame`].
     pub fn new(alloc: Global, items: FrameList) -> StreamSender
         requires { length items.frames < most_items }
         ensures { result ≡ new_sender items.frames }
@@ -64,7 +64,8 @@ impl StreamSender {
         Ok(Some(frame))
     }
 
-    /// Whether a frame can be given back: the sender's last change was that [`StreamSender::next_frame`] answered one.
+    /// Returns whether a frame can be given back: the sender's last change was that [`StreamSender::next_frame`]
+    /// answered one.
     pub fn can_give_back(&self) -> bool
         ensures { result ≡ is_some self.now.before }
     {
@@ -116,7 +117,7 @@ impl StreamSender {
         self.before = None;
     }
 
-    // A copy of the frame that comes next.
+    // Returns a copy of the frame that comes next.
     fn frame_here(&self) -> Result<Option<Frame>, AllocError>
         ensures { IfOk result (λ frame. frame ≡ next_frame self.now) }
     {

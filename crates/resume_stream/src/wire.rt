@@ -34,14 +34,14 @@ impl Wire {
         Ok(())
     }
 
-    /// The first frame that isn't carried.
+    /// Returns the first frame that isn't carried.
     pub fn first_waiting(&self) -> Option<&Frame>
         ensures { option_copied result ≡ first_waiting self.now }
     {
         self.frames.get(self.carried)
     }
 
-    /// Whether a frame isn't carried.
+    /// Returns whether a frame isn't carried.
     pub fn is_waiting(&self) -> bool
         ensures { IsTrue result ↔ (self.now.carried < length self.now.given) }
     {

@@ -114,7 +114,7 @@ impl Geometry {
         })
     }
 
-    /// How many entries the ring has: 2 at least.
+    /// Returns how many entries the ring has: 2 at least.
     pub fn entries(&self) -> u32
         ensures value { result ≡ entries_of self.now }
         ensures placed { IsPlaced self.now }
@@ -122,23 +122,23 @@ impl Geometry {
         self.entries
     }
 
-    /// The bytes of an entry, its header with it.
+    /// Returns the bytes of an entry, its header with it.
     pub fn frame_size(&self) -> u32
         ensures { result ≡ frame_size self.now }
     {
         self.frame_bytes
     }
 
-    /// The most bytes of payload that an entry holds.
+    /// Returns the most bytes of payload that an entry holds.
     pub fn max_payload(&self) -> u32
         ensures { result ≡ max_payload_of self.now }
     {
         self.frame_bytes - self.header
     }
 
-    /// The most bytes of a frame that may take several entries, as on version 5 of the transport. Such a frame fits
-    /// into an empty ring, in which one entry stays free, and has 65,536 bytes at most. A frame of one entry has at
-    /// most [`Geometry::max_payload`] bytes.
+    /// Returns the most bytes of a frame that may take several entries, as on version 5 of the transport. Such a frame
+    /// fits into an empty ring, in which one entry stays free, and has 65,536 bytes at most. A frame of one entry has
+    /// at most [`Geometry::max_payload`] bytes.
     pub fn longest(&self) -> u32
         ensures { result ≡ longest_of self.now }
     {
@@ -147,7 +147,7 @@ impl Geometry {
             .min(MOST_FRAME_BYTES)
     }
 
-    /// The number of the translation window that the ring lies in, from 0.
+    /// Returns the number of the translation window that the ring lies in, from 0.
     pub fn window_of(&self) -> u32
         ensures { result ≡ window_of self.now }
     {
@@ -184,8 +184,8 @@ impl Geometry {
         self.slot_at(i) + u64::from(self.frame_bytes) - u64::from(self.header)
     }
 
-    /// How many entries the sender may begin, by the next entry's slot `head` and the index word `tail`, both of
-    /// which have to be below the entries. One entry always stays free.
+    /// Returns how many entries the sender may begin, by the next entry's slot `head` and the index word `tail`, both
+    /// of which have to be below the entries. One entry always stays free.
     pub fn free(&self, head: u32, tail: u32) -> u32
         requires head { head < entries_of self.now }
         requires tail { tail < entries_of self.now }
@@ -215,7 +215,8 @@ impl Model for Geometry {
     ghost inverse_ok = { inside_of-layout_of };
 }
 
-/// The number that a header carries for the entry `n` of a lane in this session, counted from 0: its lowest 32 bits.
+/// Returns the number that a header carries for the entry `n` of a lane in this session, counted from 0: its lowest 32
+/// bits.
 pub fn ver_of(n: u64) -> u32
     ensures { result ≡ n % 2 ^ 32 }
 {

@@ -35,14 +35,14 @@ impl<T: Named> Declared<T> {
         }
     }
 
-    /// How many there are.
+    /// Returns how many there are.
     pub fn len(&self) -> usize
         ensures { result ≡ length self.now }
     {
         self.items.len()
     }
 
-    /// The one with the number, which has to be below how many there are.
+    /// Returns the one with the number, which has to be below how many there are.
     pub fn get(&self, number: u32) -> &T
         requires { number < length self.now }
         ensures { (other : T) → result.now ≡ slice_index_or self.now number other }
@@ -57,7 +57,7 @@ impl<T: Named> Declared<T> {
         &self.names
     }
 
-    /// The number of the one with the name, from 0; `None` if and only if none has it.
+    /// Returns the number of the one with the name, from 0; `None` if and only if none has it.
     pub fn number(&self, name: &[u8]) -> Option<u32>
         ensures value { result ≡ number_named (map T.called self.now) name.now }
         ensures below { IfSome result (λ k. k < length self.now) }
@@ -78,7 +78,7 @@ impl<T: Named> Declared<T> {
         Ok(())
     }
 
-    /// All of them, in order.
+    /// Returns all of them, in order.
     pub fn into_items(self) -> Items<T>
         ensures { result ≡ self }
     {

@@ -12,7 +12,7 @@ use step_kinds::DevPlan;
 pub type Devices = Declared<DevPlan>;
 
 impl Declared<DevPlan> {
-    /// Whether a device sits on the queue.
+    /// Returns whether a device sits on the queue.
     pub fn any_on(&self, name: QueueName) -> bool
         ensures { result ≡ list_any (sits_on name.pair name.side name.queue) self.now }
     {
@@ -28,7 +28,7 @@ impl Named for DevPlan {
     }
 }
 
-/// Whether the device sits on the queue.
+/// Returns whether the device sits on the queue.
 fn sits_on(name: QueueName, dev: &DevPlan) -> bool
     ensures { result ≡ sits_on name.pair name.side name.queue dev.now }
 {

@@ -29,21 +29,21 @@ impl Names {
         }
     }
 
-    /// How many names there are.
+    /// Returns how many names there are.
     pub fn len(&self) -> usize
         ensures { result ≡ length self.now }
     {
         self.names.len()
     }
 
-    /// Whether the name is among them.
+    /// Returns whether the name is among them.
     pub fn contains(&self, name: &[u8]) -> bool
         ensures { result ≡ has_name self.now name.now }
     {
         self.names.contains(name)
     }
 
-    /// The number of the name, from 0; `None` if and only if it isn't among them.
+    /// Returns the number of the name, from 0; `None` if and only if it isn't among them.
     pub fn number(&self, name: &[u8]) -> Option<u32>
         ensures value { result ≡ number_named self.now name.now }
         ensures below { IfSome result (λ k. k < length self.now) }
@@ -52,7 +52,7 @@ impl Names {
         Some(place as u32)
     }
 
-    /// The same as a place: few names are compared in turn, many are found by hash.
+    /// Returns the same as a place: few names are compared in turn, many are found by hash.
     fn place(&self, name: &[u8]) -> Option<usize>
         ensures value { result ≡ number_named self.now name.now }
         ensures below { IfSome result (λ k. k < length self.now) }
@@ -89,7 +89,7 @@ impl Model for Names {
     ghost invariant = { λ all. length all.names.keys ≤ 64 };
 }
 
-/// The place of the first of some names that is this one.
+/// Returns the place of the first of some names that is this one.
 fn place_in_turn(names: &[Vec<u8>], name: &[u8]) -> Option<usize>
     ensures value { result ≡ position_from (λ other. bytes_eq name.now other.items) 0 names.now }
     ensures below { IfSome result (λ k. k < length names.now) }

@@ -61,21 +61,21 @@ impl Reader {
         }
     }
 
-    /// The part that the next line stands in.
+    /// Returns the part that the next line stands in.
     pub fn part(&self) -> Part
         ensures { result ≡ self.now.part }
     {
         self.part
     }
 
-    /// The hosts.
+    /// Returns the hosts.
     pub fn hosts(&self) -> &Names
         ensures { result.now ≡ self.now.hosts }
     {
         &self.hosts
     }
 
-    /// The pairs.
+    /// Returns the pairs.
     pub fn pairs(&self) -> &Pairs
         ensures value { result.now ≡ self.now.plan.pairs }
         ensures few { length result.now ≤ most_pairs }
@@ -83,7 +83,7 @@ impl Reader {
         &self.pairs
     }
 
-    /// The pair with the number, which has to be below how many there are.
+    /// Returns the pair with the number, which has to be below how many there are.
     pub fn pair(&self, number: u32) -> &PairPlan
         requires { number < length self.now.plan.pairs }
         ensures value { result.now ≡ pair_plan self.now.plan number }
@@ -92,7 +92,7 @@ impl Reader {
         self.pairs.get(number)
     }
 
-    /// The device with the number, which has to be below how many there are.
+    /// Returns the device with the number, which has to be below how many there are.
     pub fn device(&self, number: u32) -> &DevPlan
         requires { number < length self.now.plan.devs }
         ensures value { result.now ≡ dev_plan self.now.plan.devs number }
@@ -101,21 +101,21 @@ impl Reader {
         self.devs.get(number)
     }
 
-    /// The devices.
+    /// Returns the devices.
     pub fn devs(&self) -> &Devices
         ensures { result.now ≡ self.now.plan.devs }
     {
         &self.devs
     }
 
-    /// The switches.
+    /// Returns the switches.
     pub fn switches(&self) -> &Switches
         ensures { result.now ≡ self.now.plan.switches }
     {
         &self.switches
     }
 
-    /// The switch with the number, which has to be below how many there are.
+    /// Returns the switch with the number, which has to be below how many there are.
     pub fn switch(&self, number: u32) -> &SwitchPlan
         requires { number < length self.now.plan.switches }
         ensures value { result.now ≡ switch_plan self.now.plan number }
@@ -124,14 +124,15 @@ impl Reader {
         self.switches.get(number)
     }
 
-    /// Whether the device is a port of a switch.
+    /// Returns whether the device is a port of a switch.
     pub fn is_port(&self, dev: u32) -> bool
         ensures { result ≡ is_port self.now dev }
     {
         self.switches.any_port(dev)
     }
 
-    /// The name of the host on which the device with the number stands. It has to be below how many devices there are.
+    /// Returns the name of the host on which the device with the number stands. It has to be below how many devices
+    /// there are.
     pub fn host_of(&self, dev: u32) -> &[u8]
         requires { dev < length self.now.plan.devs }
         ensures { result.now ≡ host_of self.now dev }
@@ -144,7 +145,7 @@ impl Reader {
         }
     }
 
-    /// How many steps there are.
+    /// Returns how many steps there are.
     pub fn step_count(&self) -> usize
         ensures value { result ≡ length self.now.plan.steps }
         ensures few { result ≤ most_steps }
@@ -152,14 +153,14 @@ impl Reader {
         self.step_count
     }
 
-    /// The traffic.
+    /// Returns the traffic.
     pub fn traffic(&self) -> &TrafficList
         ensures { result.now ≡ self.now.plan.traffic }
     {
         &self.traffic
     }
 
-    /// Whether the queue has its class.
+    /// Returns whether the queue has its class.
     pub fn is_classed(&self, name: QueueName) -> bool
         ensures { result ≡ list_any (is_queue name.pair name.side name.queue) self.now.classed }
     {
@@ -271,7 +272,7 @@ impl Reader {
         Ok(())
     }
 
-    /// What the lines declare.
+    /// Returns what the lines declare.
     pub fn into_script(self, alloc: Global) -> Script
         ensures { plan_in result ≡ self.plan }
     {
@@ -300,7 +301,7 @@ impl Model for Reader {
     ghost invariant = { λ all. IsKept all.step_count (before_with all.part all.hosts all.pairs all.devs all.switches all.steps all.traffic all.pair_hosts.items all.classed.items) };
 }
 
-/// Whether this is the same queue.
+/// Returns whether this is the same queue.
 fn is_queue(name: QueueName, other: &QueueName) -> bool
     ensures { result ≡ is_queue name.pair name.side name.queue other.now }
 {

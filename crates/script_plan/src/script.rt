@@ -17,7 +17,7 @@ pub struct Script {
 }
 
 impl Script {
-    /// The plan, in which each step stands by itself. Returns an error if memory runs out.
+    /// Returns the plan, in which each step stands by itself. Returns an error if memory runs out.
     pub fn into_plan(self, alloc: Global) -> Result<Plan, AllocError>
         ensures { IfOk result (λ plan. plan ≡ plan_in self) }
     {

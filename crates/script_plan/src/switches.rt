@@ -11,7 +11,7 @@ use step_kinds::SwitchPlan;
 pub type Switches = Declared<SwitchPlan>;
 
 impl Declared<SwitchPlan> {
-    /// Whether the device is a port of one of them.
+    /// Returns whether the device is a port of one of them.
     pub fn any_port(&self, dev: u32) -> bool
         ensures { result ≡ list_any (λ switch. is_among switch.ports dev) self.now }
     {
@@ -29,7 +29,7 @@ impl Named for SwitchPlan {
     }
 }
 
-/// Whether the device is one of these.
+/// Returns whether the device is one of these.
 pub fn is_among(devs: &[u32], dev: u32) -> bool
     ensures { result ≡ is_among devs.now dev }
 {

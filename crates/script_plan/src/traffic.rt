@@ -34,7 +34,7 @@ impl TrafficList {
         }
     }
 
-    /// Whether the traffic stays within the limits with this many more frames of this many bytes in all.
+    /// Returns whether the traffic stays within the limits with this many more frames of this many bytes in all.
     pub fn has_room(&self, frames: u64, bytes: u64) -> bool
         ensures { result ≡ (nat_le (sum (map frames_in self.now) + frames) most_traffic_frames && nat_le (sum (map bytes_in self.now) + bytes) most_traffic_bytes) }
     {
@@ -42,7 +42,7 @@ impl TrafficList {
             && bytes <= MOST_TRAFFIC_BYTES - self.bytes
     }
 
-    /// How many link losses of the pair there are. Its number has to be below 16.
+    /// Returns how many link losses of the pair there are. Its number has to be below 16.
     pub fn breaks_of(&self, pair: u32) -> u32
         requires { pair < 16 }
         ensures value { result ≡ count_by (is_break_of pair) self.now }
@@ -100,7 +100,7 @@ impl TrafficList {
         Ok(())
     }
 
-    /// The traffic, in order.
+    /// Returns the traffic, in order.
     pub fn into_items(self) -> Items<Traffic>
         ensures { result ≡ self }
     {

@@ -33,7 +33,7 @@ fn host_line(before: &Reader, name: &[u8]) -> Result<Given, LineFault>
     Ok(Given::Host { name })
 }
 
-/// A pair in a box.
+/// Returns a pair in a box.
 fn boxed(alloc: Global, pair: PairPlan) -> Result<Box<PairPlan>, AllocError>
     ensures { IfOk result (λ boxed. boxed.value ≡ pair) }
 {
@@ -71,7 +71,7 @@ fn pair_line(
     })
 }
 
-/// A device's threshold.
+/// Returns a device's threshold.
 fn threshold_of(digits: &[u8]) -> Result<u32, Cause>
     ensures { result ≡ rules.threshold_of digits.now }
 {
@@ -82,7 +82,7 @@ fn threshold_of(digits: &[u8]) -> Result<u32, Cause>
     Ok(number)
 }
 
-/// The same after its key, in word `n` of the line.
+/// Returns the same after its key, in word `n` of the line.
 fn read_threshold(n: u32, key: &[u8], word: &[u8]) -> Result<u32, LineFault>
     ensures { result ≡ rules.threshold_word n key.now word.now }
 {
@@ -147,7 +147,7 @@ fn class_line(before: &Reader, on: QueueWords<'_>, class: &[u8]) -> Result<Given
     Ok(Given::Class { queue, class })
 }
 
-/// The words after `host`.
+/// Returns the words after `host`.
 fn host_words(before: &Reader, words: &[&[u8]]) -> Result<Given, LineFault>
     ensures { result_map given_of result ≡ rules.host_words before.now (map (λ word. word.now) words.now) }
 {
@@ -157,7 +157,7 @@ fn host_words(before: &Reader, words: &[&[u8]]) -> Result<Given, LineFault>
     }
 }
 
-/// The words after `pair`.
+/// Returns the words after `pair`.
 fn pair_words(alloc: Global, before: &Reader, words: &[&[u8]]) -> LineResult
     ensures { ReadsLine (result_map given_of result) (rules.pair_words before.now (map (λ word. word.now) words.now)) }
 {
@@ -169,7 +169,7 @@ fn pair_words(alloc: Global, before: &Reader, words: &[&[u8]]) -> LineResult
     }
 }
 
-/// The words after `dev`.
+/// Returns the words after `dev`.
 fn dev_words(before: &Reader, words: &[&[u8]]) -> Result<Given, LineFault>
     ensures { result_map given_of result ≡ rules.dev_words before.now (map (λ word. word.now) words.now) }
 {
@@ -188,7 +188,7 @@ fn dev_words(before: &Reader, words: &[&[u8]]) -> Result<Given, LineFault>
     }
 }
 
-/// The words after `class`.
+/// Returns the words after `class`.
 fn class_words(before: &Reader, words: &[&[u8]]) -> Result<Given, LineFault>
     ensures { result_map given_of result ≡ rules.class_words before.now (map (λ word. word.now) words.now) }
 {
@@ -198,7 +198,7 @@ fn class_words(before: &Reader, words: &[&[u8]]) -> Result<Given, LineFault>
     }
 }
 
-/// A line without further words.
+/// Returns a line without further words.
 fn lone_word(words: &[&[u8]], given: Given) -> Result<Given, LineFault>
     ensures { result_map given_of result ≡ rules.lone_word (map (λ word. word.now) words.now) (given_of given) }
 {
@@ -208,7 +208,7 @@ fn lone_word(words: &[&[u8]], given: Given) -> Result<Given, LineFault>
     }
 }
 
-/// A line among the declarations.
+/// Returns a line among the declarations.
 pub fn declaration_line(alloc: Global, before: &Reader, word: &[u8], words: &[&[u8]]) -> LineResult
     ensures { ReadsLine (result_map given_of result) (rules.declaration_line before.now word.now (map (λ word. word.now) words.now)) }
 {

@@ -20,7 +20,7 @@ pub type LineResult = Result<Given, LineError>;
 /// Nothing where what a line gives is added, or why it isn't.
 pub type AddResult = Result<(), LineError>;
 
-/// What a line gives, or its fault.
+/// Returns what a line gives, or its fault.
 #[inline]
 pub fn or_fault(given: Result<Given, LineFault>) -> LineResult
     ensures { ReadsLine (result_map given_of result) (result_map given_of given) }
@@ -28,8 +28,8 @@ pub fn or_fault(given: Result<Given, LineFault>) -> LineResult
     Ok(given?)
 }
 
-/// What stands before the first of such bytes, and what stands after it where there is one. A short text is read byte
-/// by byte, which takes less there than a search of many bytes at a time.
+/// Returns what stands before the first of such bytes, and what stands after it where there is one. A short text is
+/// read byte by byte, which takes less there than a search of many bytes at a time.
 #[inline(always)]
 pub fn cut(text: &[u8], at: u8) -> (&[u8], Option<&[u8]>)
     ensures parts { slice_split (λ b. b == at) text.now ≡ result.0.now ∷ option_map_or (λ rest. slice_split (λ b. b == at) rest.now) result.1 [] }
@@ -46,7 +46,7 @@ pub fn cut(text: &[u8], at: u8) -> (&[u8], Option<&[u8]>)
     (text, None)
 }
 
-/// The same by a search of many bytes at a time.
+/// Returns the same by a search of many bytes at a time.
 #[inline(always)]
 fn cut_long(text: &[u8], at: u8) -> (&[u8], Option<&[u8]>)
     ensures parts { slice_split (λ b. b == at) text.now ≡ result.0.now ∷ option_map_or (λ rest. slice_split (λ b. b == at) rest.now) result.1 [] }
@@ -58,7 +58,7 @@ fn cut_long(text: &[u8], at: u8) -> (&[u8], Option<&[u8]>)
     }
 }
 
-/// A line without the carriage return that may end it.
+/// Returns a line without the carriage return that may end it.
 pub fn without_return(line: &[u8]) -> &[u8]
     ensures { result.now ≡ spelled.without_return line.now }
 {
@@ -73,7 +73,7 @@ pub fn without_return(line: &[u8]) -> &[u8]
     }
 }
 
-/// Whether a line says nothing: it has no words, or its first byte after its spaces is a number sign.
+/// Returns whether a line says nothing: it has no words, or its first byte after its spaces is a number sign.
 pub fn is_skipped(line: &[u8]) -> bool
     ensures { result ≡ spelled.is_skipped line.now }
 {
@@ -85,7 +85,7 @@ pub fn is_skipped(line: &[u8]) -> bool
     true
 }
 
-/// Whether all bytes of a line are printed characters or spaces.
+/// Returns whether all bytes of a line are printed characters or spaces.
 fn is_text(line: &[u8]) -> bool
     ensures { result ≡ spelled.is_text line.now }
 {

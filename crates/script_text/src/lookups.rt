@@ -27,7 +27,7 @@ pub struct QueueWords<'a> {
     pub queue: &'a [u8],
 }
 
-/// A name that isn't among these yet.
+/// Returns a name that isn't among these yet.
 fn new_among(names: &Names, word: &[u8]) -> Result<Name, Cause>
     ensures { result ≡ new_name names.now word.now }
 {
@@ -38,23 +38,23 @@ fn new_among(names: &Names, word: &[u8]) -> Result<Name, Cause>
     Ok(name)
 }
 
-/// A host that isn't declared yet. The error is [`Cause::BadName`] if the word is no name, and else [`Cause::Repeated`]
-/// if a host has that name.
+/// Returns a host that isn't declared yet. The error is [`Cause::BadName`] if the word is no name, and else
+/// [`Cause::Repeated`] if a host has that name.
 pub fn new_host(before: &Reader, word: &[u8]) -> Result<Name, Cause>
     ensures { result ≡ new_name before.now.hosts word.now }
 {
     new_among(before.hosts(), word)
 }
 
-/// A pair that isn't declared yet. The error is [`Cause::BadName`] if the word is no name, and else [`Cause::Repeated`]
-/// if a pair has that name.
+/// Returns a pair that isn't declared yet. The error is [`Cause::BadName`] if the word is no name, and else
+/// [`Cause::Repeated`] if a pair has that name.
 pub fn new_pair(before: &Reader, word: &[u8]) -> Result<Name, Cause>
     ensures { result ≡ new_name (pair_names before.now) word.now }
 {
     new_among(before.pairs().names(), word)
 }
 
-/// A device that isn't declared yet. The error is [`Cause::BadName`] if the word is no name, and else
+/// Returns a device that isn't declared yet. The error is [`Cause::BadName`] if the word is no name, and else
 /// [`Cause::Repeated`] if a device has that name.
 pub fn new_device(before: &Reader, word: &[u8]) -> Result<Name, Cause>
     ensures { result ≡ new_name (dev_names before.now) word.now }
@@ -62,7 +62,7 @@ pub fn new_device(before: &Reader, word: &[u8]) -> Result<Name, Cause>
     new_among(before.devs().names(), word)
 }
 
-/// A switch that isn't declared yet. The error is [`Cause::BadName`] if the word is no name, and else
+/// Returns a switch that isn't declared yet. The error is [`Cause::BadName`] if the word is no name, and else
 /// [`Cause::Repeated`] if a switch has that name.
 pub fn new_switch(before: &Reader, word: &[u8]) -> Result<Name, Cause>
     ensures { result ≡ new_name (switch_names before.now) word.now }
@@ -70,8 +70,8 @@ pub fn new_switch(before: &Reader, word: &[u8]) -> Result<Name, Cause>
     new_among(before.switches().names(), word)
 }
 
-/// A host that is declared. The error is [`Cause::BadName`] if the word is no name, and else [`Cause::UnknownName`] if
-/// no host has that name.
+/// Returns a host that is declared. The error is [`Cause::BadName`] if the word is no name, and else
+/// [`Cause::UnknownName`] if no host has that name.
 pub fn read_host(before: &Reader, word: &[u8]) -> Result<Name, Cause>
     ensures { result ≡ host_word before.now word.now }
 {
@@ -82,7 +82,7 @@ pub fn read_host(before: &Reader, word: &[u8]) -> Result<Name, Cause>
     Ok(name)
 }
 
-/// The number of the pair that a word names. The error is [`Cause::BadName`] if the word is no name, and else
+/// Returns the number of the pair that a word names. The error is [`Cause::BadName`] if the word is no name, and else
 /// [`Cause::UnknownName`] if no pair has that name.
 pub fn read_pair(before: &Reader, word: &[u8]) -> Result<u32, Cause>
     ensures value { result ≡ pair_word before.now word.now }
@@ -95,7 +95,7 @@ pub fn read_pair(before: &Reader, word: &[u8]) -> Result<u32, Cause>
     before.pairs().number(word).ok_or(Cause::UnknownName)
 }
 
-/// The number of the device that a word names. The error is [`Cause::BadName`] if the word is no name, and else
+/// Returns the number of the device that a word names. The error is [`Cause::BadName`] if the word is no name, and else
 /// [`Cause::UnknownName`] if no device has that name.
 pub fn read_device(before: &Reader, word: &[u8]) -> Result<u32, Cause>
     ensures value { result ≡ dev_word before.now word.now }
@@ -107,7 +107,7 @@ pub fn read_device(before: &Reader, word: &[u8]) -> Result<u32, Cause>
     before.devs().number(word).ok_or(Cause::UnknownName)
 }
 
-/// The number of the switch that a word names. The error is [`Cause::BadName`] if the word is no name, and else
+/// Returns the number of the switch that a word names. The error is [`Cause::BadName`] if the word is no name, and else
 /// [`Cause::UnknownName`] if no switch has that name.
 pub fn read_switch(before: &Reader, word: &[u8]) -> Result<u32, Cause>
     ensures value { result ≡ switch_word before.now word.now }
@@ -119,8 +119,8 @@ pub fn read_switch(before: &Reader, word: &[u8]) -> Result<u32, Cause>
     before.switches().number(word).ok_or(Cause::UnknownName)
 }
 
-/// The side of a pair that two words name, the first of which is word `n` of the line, at most 6. The error is that of
-/// [`read_pair`] at word `n`, and else [`Cause::BadName`] at word `n + 1`, if that is neither `A` nor `B`.
+/// Returns the side of a pair that two words name, the first of which is word `n` of the line, at most 6. The error is
+/// that of [`read_pair`] at word `n`, and else [`Cause::BadName`] at word `n + 1`, if that is neither `A` nor `B`.
 pub fn read_side_name(before: &Reader, n: u32, words: SideWords<'_>) -> Result<SideName, LineFault>
     requires { n ≤ 6 }
     ensures value { result ≡ named_side before.now n words.entry.pair.now words.entry.side.now }
@@ -131,7 +131,7 @@ pub fn read_side_name(before: &Reader, n: u32, words: SideWords<'_>) -> Result<S
     Ok(SideName { pair, side })
 }
 
-/// The queue of a side that a word names.
+/// Returns the queue of a side that a word names.
 fn read_queue(before: &Reader, pair: u32, side: Side, word: &[u8]) -> Result<u32, Cause>
     requires { pair < length before.now.plan.pairs }
     ensures value { result ≡ queue_word before.now pair side word.now }
@@ -144,9 +144,9 @@ fn read_queue(before: &Reader, pair: u32, side: Side, word: &[u8]) -> Result<u32
     Ok(queue)
 }
 
-/// The queue of a side of a pair that three words name, the first of which is word `n` of the line, at most 6. An error
-/// of [`read_side_name`] comes first. Else the error is, at word `n + 2`, [`Cause::BadNumber`] if that spells no
-/// number, and else [`Cause::UnknownName`] if the side has no queue of that number.
+/// Returns the queue of a side of a pair that three words name, the first of which is word `n` of the line, at most 6.
+/// An error of [`read_side_name`] comes first. Else the error is, at word `n + 2`, [`Cause::BadNumber`] if that spells
+/// no number, and else [`Cause::UnknownName`] if the side has no queue of that number.
 pub fn read_queue_name(
     before: &Reader,
     n: u32,

@@ -21,7 +21,7 @@ use script_words::{Cause, LineError, Part, ScriptFault};
 use std::alloc::Global;
 use step_kinds::Plan;
 
-/// The first line.
+/// Returns the first line.
 fn header_line<'a>(words: &mut Vec<&'a [u8]>, line: &'a [u8]) -> AddResult
     ensures { ReadsLine (result_map (λ _. Nothing) result) (rules.header_line line.now) }
 {
@@ -34,7 +34,7 @@ fn header_line<'a>(words: &mut Vec<&'a [u8]>, line: &'a [u8]) -> AddResult
     Ok(())
 }
 
-/// Whether these are the words of the first line.
+/// Returns whether these are the words of the first line.
 fn is_header(words: &[&[u8]]) -> bool
     ensures { result ≡ rules.is_header (map (λ word. word.now) words.now) }
 {
@@ -115,7 +115,7 @@ fn add_line<'a>(
     }
 }
 
-/// What the lines of a script of at most 16,777,216 bytes declare.
+/// Returns what the lines of a script of at most 16,777,216 bytes declare.
 ///
 /// # Errors
 ///
@@ -152,7 +152,7 @@ fn add_lines(alloc: Global, before: &mut Reader, bytes: &[u8]) -> Result<(), Par
     Ok(())
 }
 
-/// What a script of at most 16,777,216 bytes declares, with its steps as its lines have them.
+/// Returns what a script of at most 16,777,216 bytes declares, with its steps as its lines have them.
 ///
 /// # Errors
 ///

@@ -221,7 +221,7 @@ fn xnext_line(before: &mut Reader, line: u32, dev: &[u8]) -> AddResult
     add_step(before, line, step)
 }
 
-/// The bytes of a window that reach the peer's memory.
+/// Returns the bytes of a window that reach the peer's memory.
 fn reach(pair: &PairPlan, side: Side) -> u64
     ensures { result ≡ rules.reach pair.now side }
 {
@@ -273,7 +273,7 @@ fn poke_line(
     )
 }
 
-/// The steps of a frame.
+/// Returns the steps of a frame.
 fn frame_steps(word: FrameWord, plan: &PairPlan, name: QueueName, frame: Frame) -> Macro
     requires declared { IsPair plan.now }
     requires among { name.queue < (side_plan plan.now name.side).queues }
@@ -318,7 +318,7 @@ fn frame_line(
     add_steps(before, line, steps)
 }
 
-/// The steps of an Ethernet payload.
+/// Returns the steps of an Ethernet payload.
 fn ethernet_steps(
     before: &Reader,
     is_macro: bool,
@@ -380,7 +380,7 @@ fn ethernet_line(
     add_steps(before, line, steps)
 }
 
-/// A line of one more word.
+/// Returns a line of one more word.
 fn line_of_one(before: &mut Reader, line: u32, word: &[u8], a: &[u8]) -> AddResult
     ensures { Adds line before.old before.new result (rules.line_of_one before.old word.now a.now) }
 {
@@ -396,7 +396,7 @@ fn line_of_one(before: &mut Reader, line: u32, word: &[u8], a: &[u8]) -> AddResu
     }
 }
 
-/// A line of two more words.
+/// Returns a line of two more words.
 fn line_of_two(before: &mut Reader, line: u32, word: &[u8], a: &[u8], b: &[u8]) -> AddResult
     ensures { Adds line before.old before.new result (rules.line_of_two before.old word.now a.now b.now) }
 {
@@ -410,7 +410,7 @@ fn line_of_two(before: &mut Reader, line: u32, word: &[u8], a: &[u8], b: &[u8]) 
     }
 }
 
-/// A line of three more words.
+/// Returns a line of three more words.
 fn line_of_three(before: &mut Reader, line: u32, word: &[u8], on: QueueWords<'_>) -> AddResult
     ensures { Adds line before.old before.new result (rules.line_of_three before.old word.now on.entry.pair.now on.entry.side.now on.entry.queue.now) }
 {
@@ -428,7 +428,7 @@ fn line_of_three(before: &mut Reader, line: u32, word: &[u8], on: QueueWords<'_>
     }
 }
 
-/// A line of four more words.
+/// Returns a line of four more words.
 fn line_of_four(
     alloc: Global,
     before: &mut Reader,
@@ -466,7 +466,7 @@ fn line_of_four(
     }
 }
 
-/// A line of five more words.
+/// Returns a line of five more words.
 fn line_of_five(
     alloc: Global,
     before: &mut Reader,
@@ -486,7 +486,7 @@ fn line_of_five(
     }
 }
 
-/// A line without further words.
+/// Returns a line without further words.
 fn lone_line(alloc: Global, before: &mut Reader, line: u32, word: &[u8]) -> AddResult
     ensures { Adds line before.old before.new result (rules.step_line before.old word.now []) }
 {

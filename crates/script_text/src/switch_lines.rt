@@ -16,7 +16,7 @@ use std::alloc::Global;
 use step_kinds::limits::{LEAST_PORTS, MOST_PORTS, MOST_SWITCHES};
 use step_kinds::{Items, SwitchPlan};
 
-/// The device that a word names, which is neither a port yet nor one of these.
+/// Returns the device that a word names, which is neither a port yet nor one of these.
 fn new_port(before: &Reader, devs: &[u32], word: &[u8]) -> Result<u32, LineFault>
     requires { length devs.now ≤ 16 }
     ensures { result_map (λ dev. devs.now ++ dev ∷ []) result ≡ with_port before.now devs.now word.now }
@@ -29,7 +29,7 @@ fn new_port(before: &Reader, devs: &[u32], word: &[u8]) -> Result<u32, LineFault
     Ok(dev)
 }
 
-/// The devices that words name as ports of one switch, in order.
+/// Returns the devices that words name as ports of one switch, in order.
 fn read_ports(alloc: Global, before: &Reader, words: &[&[u8]]) -> Result<Items<u32>, LineError>
     requires { length words.now ≤ 16 }
     ensures { ReadsLine result (ports_from before.now [] (map (λ word. word.now) words.now)) }
@@ -42,7 +42,7 @@ fn read_ports(alloc: Global, before: &Reader, words: &[&[u8]]) -> Result<Items<u
     Ok(ports)
 }
 
-/// Whether devices stand on one host: each on that of the first.
+/// Returns whether devices stand on one host: each on that of the first.
 fn on_one_host(before: &Reader, devs: &[u32]) -> bool
     requires { All (λ dev. dev < length before.now.plan.devs) devs.now }
     ensures { result ≡ on_one_host before.now devs.now }
@@ -77,14 +77,14 @@ fn switch_line(alloc: Global, before: &Reader, name: &[u8], devs: &[&[u8]]) -> L
     })
 }
 
-/// Whether a switch may have this many ports.
+/// Returns whether a switch may have this many ports.
 fn is_ports(ports: usize) -> bool
     ensures { result ≡ rules.is_ports ports }
 {
     LEAST_PORTS <= ports && ports <= MOST_PORTS
 }
 
-/// The words after `switch`.
+/// Returns the words after `switch`.
 pub fn switch_words(alloc: Global, before: &Reader, words: &[&[u8]]) -> LineResult
     ensures { ReadsLine (result_map given_of result) (rules.switch_words before.now (map (λ word. word.now) words.now)) }
 {

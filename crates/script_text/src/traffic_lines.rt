@@ -24,7 +24,7 @@ use step_kinds::limits::{
 };
 use step_kinds::{Frame, LaneName, PairPlan};
 
-/// Whether a pair may have traffic.
+/// Returns whether a pair may have traffic.
 fn may_have_traffic(pair: &PairPlan) -> bool
     ensures { result ≡ rules.may_have_traffic pair.now }
 {
@@ -67,7 +67,7 @@ fn break_line(before: &Reader, pair: &[u8]) -> Result<Given, LineFault>
     Ok(Given::Break { pair })
 }
 
-/// The lane that a queue's side sends.
+/// Returns the lane that a queue's side sends.
 fn lane_of(name: QueueName) -> LaneName
     ensures { result ≡ rules.lane_of name }
 {
@@ -107,7 +107,7 @@ fn flood_line(
     Ok(Given::Flood { lane, count, len })
 }
 
-/// A line among the traffic.
+/// Returns a line among the traffic.
 pub fn traffic_line(alloc: Global, before: &Reader, word: &[u8], words: &[&[u8]]) -> LineResult
     ensures { ReadsLine (result_map given_of result) (rules.traffic_line before.now word.now (map (λ word. word.now) words.now)) }
 {

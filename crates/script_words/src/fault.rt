@@ -53,7 +53,7 @@ pub enum Cause {
 }
 
 impl Cause {
-    /// The word of the cause, as it is in the answer to a script that is refused.
+    /// Returns the word of the cause, as it is in the answer to a script that is refused.
     pub fn word(self) -> &'static str
         ensures { result.now ≡ cause_text self }
     {
@@ -73,7 +73,7 @@ impl Cause {
         }
     }
 
-    /// The number of the cause: 1 to 10, 12 or 13, since no cause has the number 11.
+    /// Returns the number of the cause: 1 to 10, 12 or 13, since no cause has the number 11.
     pub fn number(self) -> u8
         ensures { result ≡ cause_number self }
     {
@@ -93,7 +93,7 @@ impl Cause {
         }
     }
 
-    /// The fault at a word of the line, the first of which is word 1.
+    /// Returns the fault at a word of the line, the first of which is word 1.
     #[inline]
     pub fn at(self, word: u32) -> LineFault
         ensures { result ≡ tests.fault_at word self }
@@ -105,7 +105,7 @@ impl Cause {
         }
     }
 
-    /// The fault of the line as a whole.
+    /// Returns the fault of the line as a whole.
     #[inline]
     pub fn of_line(self) -> LineFault
         ensures { result ≡ tests.whole self }
@@ -113,7 +113,7 @@ impl Cause {
         self.at(0)
     }
 
-    /// The fault at a word that should spell a number of a range.
+    /// Returns the fault at a word that should spell a number of a range.
     #[inline]
     pub fn outside(self, word: u32, range: Range) -> LineFault
         ensures { result ≡ tests.outside word range.least range.most self }
@@ -138,7 +138,8 @@ pub struct LineFault {
     pub range: Option<Range>,
 }
 
-/// The fault of a line whose first word isn't known in its part of the script, or whose words are too few or too many.
+/// Returns the fault of a line whose first word isn't known in its part of the script, or whose words are too few or
+/// too many.
 #[inline]
 pub fn unknown_line() -> LineFault
     ensures { result ≡ tests.unknown_line }
@@ -146,7 +147,7 @@ pub fn unknown_line() -> LineFault
     Cause::UnknownWord.at(1)
 }
 
-/// What a word gives, or the fault at that word.
+/// Returns what a word gives, or the fault at that word.
 ///
 /// # Errors
 ///
@@ -161,7 +162,7 @@ pub fn at<T>(word: u32, given: Result<T, Cause>) -> Result<T, LineFault>
     }
 }
 
-/// What a word gives that should spell a number of a range, or the fault at that word.
+/// Returns what a word gives that should spell a number of a range, or the fault at that word.
 ///
 /// # Errors
 ///

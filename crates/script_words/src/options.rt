@@ -33,7 +33,7 @@ fn new_setting(settings: &[Setting], word: &[u8]) -> Result<Setting, LineFault>
     Ok(setting)
 }
 
-/// The options that the words of a pair's line from the fifth on spell.
+/// Returns the options that the words of a pair's line from the fifth on spell.
 ///
 /// # Errors
 ///

@@ -12,7 +12,7 @@ use crate::words::read_number;
 use pair_settings::{Setting, SideKey};
 use step_kinds::Side;
 
-/// The option without a number that a word spells.
+/// Returns the option without a number that a word spells.
 fn plain_setting(word: &[u8]) -> Option<Setting>
     ensures { result ≡ rules.plain_setting word.now }
 {
@@ -23,7 +23,7 @@ fn plain_setting(word: &[u8]) -> Option<Setting>
     }
 }
 
-/// What stands before and after the first equals sign of a word.
+/// Returns what stands before and after the first equals sign of a word.
 fn split_at_equals(word: &[u8]) -> Option<(&[u8], &[u8])>
     ensures key { option_map_or (λ parts. parts.0.now) result word.now ≡ rules.before_equals word.now }
     ensures number { option_map (λ parts. parts.1.now) result ≡ rules.behind_equals word.now }
@@ -36,14 +36,14 @@ fn split_at_equals(word: &[u8]) -> Option<(&[u8], &[u8])>
     None
 }
 
-/// What a word has after a key; `None` if and only if it doesn't begin with the key.
+/// Returns what a word has after a key; `None` if and only if it doesn't begin with the key.
 pub fn behind_key<'a>(key: &[u8], word: &'a [u8]) -> Option<&'a [u8]>
     ensures { option_copied result ≡ behind key.now word.now }
 {
     word.strip_prefix(key)
 }
 
-/// The sides that a word means where it begins with the key: both, or the one that stands after it.
+/// Returns the sides that a word means where it begins with the key: both, or the one that stands after it.
 fn sides_behind(key: SideKey, word: &[u8]) -> Option<(SideKey, Option<Side>)>
     ensures { option_map (λ scope. λ number. Setting.OfSide scope.0 scope.1 number) result ≡ rules.scoped key (behind (key_text key) word.now) }
 {
@@ -55,7 +55,7 @@ fn sides_behind(key: SideKey, word: &[u8]) -> Option<(SideKey, Option<Side>)>
     }
 }
 
-/// The key of a side's number and the sides that a word means.
+/// Returns the key of a side's number and the sides that a word means.
 fn side_key(word: &[u8]) -> Option<(SideKey, Option<Side>)>
     ensures { option_map (λ scope. λ number. Setting.OfSide scope.0 scope.1 number) result ≡ rules.side_setting word.now }
 {
@@ -66,7 +66,7 @@ fn side_key(word: &[u8]) -> Option<(SideKey, Option<Side>)>
         .or(sides_behind(SideKey::Version, word))
 }
 
-/// The option of a key and its number.
+/// Returns the option of a key and its number.
 fn keyed_setting(key: &[u8], digits: &[u8]) -> Result<Setting, Cause>
     ensures { result ≡ rules.keyed_word key.now (Some digits.now) }
 {
@@ -80,7 +80,7 @@ fn keyed_setting(key: &[u8], digits: &[u8]) -> Result<Setting, Cause>
     Ok(Setting::OfSide { key, side, number })
 }
 
-/// The option that a word spells.
+/// Returns the option that a word spells.
 ///
 /// # Errors
 ///

@@ -63,7 +63,7 @@ pub enum FrameWord {
     Send,
 }
 
-/// The first word of a line that has a pair, where it is one.
+/// Returns the first word of a line that has a pair, where it is one.
 pub fn pair_word_of(word: &[u8]) -> Option<PairWord>
     ensures { option_map pair_step_of result ≡ pair_step word.now }
 {
@@ -74,7 +74,7 @@ pub fn pair_word_of(word: &[u8]) -> Option<PairWord>
     }
 }
 
-/// The first word of a line that has a pair and a side, where it is one.
+/// Returns the first word of a line that has a pair and a side, where it is one.
 pub fn side_word_of(word: &[u8]) -> Option<SideWord>
     ensures { option_map side_steps_of result ≡ side_steps word.now }
 {
@@ -88,7 +88,7 @@ pub fn side_word_of(word: &[u8]) -> Option<SideWord>
     }
 }
 
-/// The first word of a line that has a pair, a side and a queue, where it is one.
+/// Returns the first word of a line that has a pair, a side and a queue, where it is one.
 pub fn queue_word_of(word: &[u8]) -> Option<QueueWord>
     ensures { option_map queue_steps_of result ≡ queue_steps word.now }
 {
@@ -105,7 +105,7 @@ pub fn queue_word_of(word: &[u8]) -> Option<QueueWord>
     }
 }
 
-/// The first word of a line that has a pair, a side and a number, where it is one.
+/// Returns the first word of a line that has a pair, a side and a number, where it is one.
 pub fn number_word_of(word: &[u8]) -> Option<NumberWord>
     ensures { option_map numbered_of result ≡ numbered_steps word.now }
 {
@@ -119,7 +119,7 @@ pub fn number_word_of(word: &[u8]) -> Option<NumberWord>
     }
 }
 
-/// The first word of a line that has a pair, a side, a queue and bytes, where it is one.
+/// Returns the first word of a line that has a pair, a side, a queue and bytes, where it is one.
 pub fn frame_word_of(word: &[u8]) -> Option<FrameWord>
     ensures { option_map frame_steps_of result ≡ frame_steps word.now }
 {
@@ -130,7 +130,7 @@ pub fn frame_word_of(word: &[u8]) -> Option<FrameWord>
 }
 
 impl PairWord {
-    /// The step of the word on a pair.
+    /// Returns the step of the word on a pair.
     pub fn step(self, pair: u32) -> Step
         ensures { result ≡ pair_step_of self pair }
     {
@@ -143,7 +143,7 @@ impl PairWord {
 }
 
 impl SideWord {
-    /// The steps of the word on a side with this many windows, at most 4.
+    /// Returns the steps of the word on a side with this many windows, at most 4.
     pub fn steps(self, windows: u32, pair: u32, side: Side) -> Macro
         requires { windows ≤ 4 }
         ensures { steps_of result ≡ side_steps_with self windows pair side }
@@ -166,7 +166,7 @@ impl SideWord {
 }
 
 impl QueueWord {
-    /// The steps of the word on a queue.
+    /// Returns the steps of the word on a queue.
     #[inline]
     pub fn steps(self, pair: u32, side: Side, queue: u32) -> Macro
         ensures { steps_of result ≡ queue_steps_of self pair side queue }
@@ -191,7 +191,7 @@ impl QueueWord {
 }
 
 impl NumberWord {
-    /// The least number that the step takes.
+    /// Returns the least number that the step takes.
     pub fn least(self) -> u32
         ensures { result ≡ (numbered_of self).least }
     {
@@ -201,7 +201,7 @@ impl NumberWord {
         }
     }
 
-    /// The largest number that the step takes.
+    /// Returns the largest number that the step takes.
     pub fn most(self) -> u32
         ensures { result ≡ (numbered_of self).most }
     {
@@ -212,7 +212,7 @@ impl NumberWord {
         }
     }
 
-    /// The steps of the word on a side, with the number.
+    /// Returns the steps of the word on a side, with the number.
     #[inline]
     pub fn steps(self, pair: u32, side: Side, number: u32) -> Macro
         ensures { steps_of result ≡ (numbered_of self).steps pair side number }
@@ -236,14 +236,14 @@ impl NumberWord {
     }
 }
 
-// A step of its own.
+// Returns a step of its own.
 fn one(step: Step) -> Macro
     ensures { steps_of result ≡ step ∷ [] }
 {
     Macro::One { step }
 }
 
-// A step of few numbers that stands once.
+// Returns a step of few numbers that stands once.
 fn once(repeated: Repeated) -> Macro
     ensures { steps_of result ≡ step_again repeated ∷ [] }
 {

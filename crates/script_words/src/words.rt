@@ -13,7 +13,7 @@ use pair_settings::Range;
 use std::alloc::Global;
 use step_kinds::{Items, Name, Side};
 
-/// Whether a word is a name: 1 to 16 small letters and digits, the first a letter.
+/// Returns whether a word is a name: 1 to 16 small letters and digits, the first a letter.
 pub fn is_name(word: &[u8]) -> bool
     ensures { result ≡ spelled.is_name word.now }
 {
@@ -25,7 +25,7 @@ pub fn is_name(word: &[u8]) -> bool
     }
 }
 
-/// Whether bytes may stand in a name after its first.
+/// Returns whether bytes may stand in a name after its first.
 fn are_name_bytes(bytes: &[u8]) -> bool
     ensures { result ≡ list_all (λ b. spelled.is_letter b || spelled.is_digit b) bytes.now }
 {
@@ -34,7 +34,7 @@ fn are_name_bytes(bytes: &[u8]) -> bool
         .all(|byte| byte.is_ascii_lowercase() || byte.is_ascii_digit())
 }
 
-/// The name that a word spells.
+/// Returns the name that a word spells.
 ///
 /// # Errors
 ///
@@ -49,7 +49,7 @@ pub fn read_name(word: &[u8]) -> Result<Name, Cause>
     }
 }
 
-/// The side that a word spells.
+/// Returns the side that a word spells.
 ///
 /// # Errors
 ///
@@ -64,7 +64,7 @@ pub fn read_side(word: &[u8]) -> Result<Side, Cause>
     }
 }
 
-/// Whether there is a digit, and no leading zero but for zero itself.
+/// Returns whether there is a digit, and no leading zero but for zero itself.
 fn is_plain(word: &[u8]) -> bool
     ensures { result ≡ spelled.is_plain word.now }
 {
@@ -75,7 +75,7 @@ fn is_plain(word: &[u8]) -> bool
     }
 }
 
-/// The number that a word spells: decimal digits without a leading zero but for zero itself, below 2^32.
+/// Returns the number that a word spells: decimal digits without a leading zero but for zero itself, below 2^32.
 fn number_of(word: &[u8]) -> Option<u32>
     ensures { result ≡ spelled.number_of word.now }
 {
@@ -95,7 +95,7 @@ fn number_of(word: &[u8]) -> Option<u32>
     Some(value as u32)
 }
 
-/// The number that a word spells.
+/// Returns the number that a word spells.
 ///
 /// # Errors
 ///
@@ -107,7 +107,7 @@ pub fn read_number(word: &[u8]) -> Result<u32, Cause>
     number_of(word).ok_or(Cause::BadNumber)
 }
 
-/// The number that a word spells, from the least to the most.
+/// Returns the number that a word spells, from the least to the most.
 ///
 /// # Errors
 ///
@@ -122,7 +122,7 @@ pub fn read_number_between(least: u32, most: u32, word: &[u8]) -> Result<u32, Ca
     Ok(number)
 }
 
-/// The number that word `n` of a line spells, from the least to the most.
+/// Returns the number that word `n` of a line spells, from the least to the most.
 ///
 /// # Errors
 ///
@@ -137,7 +137,7 @@ pub fn read_number_in(n: u32, least: u32, most: u32, word: &[u8]) -> Result<u32,
     )
 }
 
-/// The bytes that a word spells by pairs of hexadecimal digits.
+/// Returns the bytes that a word spells by pairs of hexadecimal digits.
 ///
 /// # Errors
 ///
@@ -153,7 +153,7 @@ pub fn read_bytes(alloc: Global, word: &[u8]) -> Result<Items<u8>, ReadError>
     }
 }
 
-/// The bytes that word `n` of a line spells.
+/// Returns the bytes that word `n` of a line spells.
 ///
 /// # Errors
 ///
@@ -170,7 +170,7 @@ pub fn read_bytes_at(alloc: Global, n: u32, word: &[u8]) -> Result<Items<u8>, Li
     }
 }
 
-/// The bytes that a word spells, of which there have to be this many. It takes no memory.
+/// Returns the bytes that a word spells, of which there have to be this many. It takes no memory.
 ///
 /// # Errors
 ///
@@ -185,7 +185,7 @@ pub fn read_array<const N: usize>(word: &[u8]) -> Result<[u8; N], Cause>
     Ok(bytes)
 }
 
-/// The number of two bytes that a word spells, the high one first.
+/// Returns the number of two bytes that a word spells, the high one first.
 ///
 /// # Errors
 ///

@@ -13,7 +13,7 @@ pub struct Frame {
 }
 
 impl Frame {
-    /// The frame of these bytes, of which there are at most 65,536. It takes no memory.
+    /// Returns the frame of these bytes, of which there are at most 65,536. It takes no memory.
     pub fn of_vec(bytes: Vec<u8>) -> Frame
         requires { vec_len bytes ≤ most_frame_bytes }
         ensures { result ≡ bytes.items }
@@ -21,7 +21,7 @@ impl Frame {
         Frame { bytes }
     }
 
-    /// The number of its bytes.
+    /// Returns the number of its bytes.
     pub fn len(&self) -> u32
         ensures value { result ≡ length self.now }
         ensures fits { result ≤ most_frame_bytes }
@@ -29,7 +29,7 @@ impl Frame {
         self.bytes.len() as u32
     }
 
-    /// Whether it has no byte, which only a raw pair can deliver.
+    /// Returns whether it has no byte, which only a raw pair can deliver.
     pub fn is_empty(&self) -> bool
         ensures { IsTrue result ↔ (self.now ≡ []) }
     {
@@ -44,7 +44,7 @@ impl Frame {
         &self.bytes
     }
 
-    /// A frame with the same bytes. Returns an error if memory runs out.
+    /// Returns a frame with the same bytes. Returns an error if memory runs out.
     pub fn copy_of(&self, alloc: Global) -> Result<Frame, AllocError>
         ensures { IfOk result (λ copy. copy ≡ self.now) }
     {

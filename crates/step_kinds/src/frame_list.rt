@@ -74,21 +74,21 @@ impl FrameList {
         self.spare -= 1;
     }
 
-    /// How many frames the list has.
+    /// Returns how many frames the list has.
     pub fn len(&self) -> usize
         ensures { result ≡ length self.now.frames }
     {
         self.frames.len()
     }
 
-    /// Whether the list has no frame.
+    /// Returns whether the list has no frame.
     pub fn is_empty(&self) -> bool
         ensures { IsTrue result ↔ (self.now.frames ≡ []) }
     {
         self.frames.is_empty()
     }
 
-    /// The frame at this place, counted from 0, which has to be below the list's length.
+    /// Returns the frame at this place, counted from 0, which has to be below the list's length.
     pub fn frame_at(&self, place: usize) -> &Frame
         requires { place < length self.now.frames }
         ensures { result.now ≡ slice_index_or self.now.frames place [] }

@@ -26,7 +26,7 @@ impl<const MOST: usize> InPlace<MOST> {
         }
     }
 
-    /// The bytes.
+    /// Returns the bytes.
     pub fn as_slice(&self) -> &[u8]
         ensures value { result.now ≡ self.now }
         ensures some { 1 ≤ length result.now }

@@ -91,35 +91,35 @@ pub const TRAFFIC_CLASSES: u32 = 8;
 /// How far anything is counted that no other limit holds down: frames and entries of a ring, and bytes of a device.
 pub const MOST_COUNT: u64 = 1 << 62;
 
-/// Whether a side may have this many queues: 1 to 16.
+/// Returns whether a side may have this many queues: 1 to 16.
 pub fn is_queues(queues: u32) -> bool
     ensures { IsTrue result ↔ IsQueues queues }
 {
     1 <= queues && queues <= MOST_QUEUES
 }
 
-/// Whether a side may have this many translation windows: 1 to 4.
+/// Returns whether a side may have this many translation windows: 1 to 4.
 pub fn is_windows(windows: u32) -> bool
     ensures { IsTrue result ↔ IsWindows windows }
 {
     1 <= windows && windows <= MOST_WINDOWS
 }
 
-/// Whether a window may have this many bytes: 4,096 to 268,435,456 in steps of 4,096.
+/// Returns whether a window may have this many bytes: 4,096 to 268,435,456 in steps of 4,096.
 pub fn is_size(bytes: u64) -> bool
     ensures { IsTrue result ↔ IsSize bytes }
 {
     LEAST_SIZE <= bytes && bytes <= MOST_SIZE && bytes % SIZE_STEP == 0
 }
 
-/// Whether the largest transfer unit of a pair may be this many bytes: 16 to 65,536.
+/// Returns whether the largest transfer unit of a pair may be this many bytes: 16 to 65,536.
 pub fn is_mtu(bytes: u32) -> bool
     ensures { IsTrue result ↔ IsMtu bytes }
 {
     LEAST_MTU <= bytes && bytes <= MOST_MTU
 }
 
-/// Whether the number is a traffic class: 0 to 7.
+/// Returns whether the number is a traffic class: 0 to 7.
 pub fn is_class(number: u32) -> bool
     ensures { IsTrue result ↔ IsClass number }
 {

@@ -16,7 +16,7 @@ pub enum Side {
 }
 
 impl Side {
-    /// The other side of the pair: the side's peer.
+    /// Returns the other side of the pair: the side's peer.
     pub fn other(self) -> Side
         ensures { result ≡ other_side self }
     {
@@ -26,7 +26,7 @@ impl Side {
         }
     }
 
-    /// Whether this is that side.
+    /// Returns whether this is that side.
     pub fn is(self, other: Side) -> bool
         ensures { result ≡ same_side self other }
     {
@@ -50,7 +50,7 @@ pub struct LaneName {
 }
 
 impl LaneName {
-    /// Whether this is that lane.
+    /// Returns whether this is that lane.
     pub fn is(self, other: LaneName) -> bool
         ensures { result ≡ same_lane self other }
     {
@@ -65,7 +65,7 @@ pub struct Name {
 }
 
 impl Name {
-    /// The name of these 1 to 16 bytes.
+    /// Returns the name of these 1 to 16 bytes.
     pub fn of_bytes(bytes: &[u8]) -> Name
         requires some { 1 ≤ length bytes.now }
         requires fits { length bytes.now ≤ 16 }
@@ -76,7 +76,7 @@ impl Name {
         }
     }
 
-    /// The 1 to 16 bytes of the name.
+    /// Returns the 1 to 16 bytes of the name.
     pub fn bytes(&self) -> &[u8]
         ensures value { result.now ≡ self.now }
         ensures some { 1 ≤ length result.now }

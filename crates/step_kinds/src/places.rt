@@ -275,7 +275,7 @@ impl Step {
     }
 }
 
-// A step on a queue of a side.
+// Returns a step on a queue of a side.
 #[inline(always)]
 fn on_queue(side: Side, queue: u32, step: QueueStep<'_>) -> StepPlace<'_>
     ensures { result ≡ OnQueue side queue step.entry }
@@ -283,7 +283,7 @@ fn on_queue(side: Side, queue: u32, step: QueueStep<'_>) -> StepPlace<'_>
     StepPlace::OnQueue { side, queue, step }
 }
 
-// A step on the bridge alone.
+// Returns a step on the bridge alone.
 #[inline(always)]
 fn on_bridge(step: BridgeStep<'_>) -> StepPlace<'_>
     ensures { result ≡ OnBridge step.entry }
@@ -291,7 +291,7 @@ fn on_bridge(step: BridgeStep<'_>) -> StepPlace<'_>
     StepPlace::OnBridge { step }
 }
 
-// A step on a switch.
+// Returns a step on a switch.
 #[inline(always)]
 fn on_switch(step: SwitchStep) -> StepPlace<'static>
     ensures { result ≡ OnSwitch step }

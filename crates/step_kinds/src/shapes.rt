@@ -125,7 +125,7 @@ pub struct Shape {
 }
 
 impl Answer {
-    /// The word, the numbers and the end of the answer.
+    /// Returns the word, the numbers and the end of the answer.
     #[inline]
     pub fn shape(&self) -> Shape
         ensures { seen_of result ≡ answer_shape self.now }
@@ -206,7 +206,7 @@ impl Answer {
         }
     }
 
-    /// The bytes that the answer ends with: those of a frame or of a memory. Any other answer has none.
+    /// Returns the bytes that the answer ends with: those of a frame or of a memory. Any other answer has none.
     #[inline]
     pub fn bytes(&self) -> &[u8]
         ensures { result.now ≡ answer_bytes self.now }
@@ -222,7 +222,7 @@ impl Answer {
 }
 
 impl Label {
-    /// The word and the numbers of the label.
+    /// Returns the word and the numbers of the label.
     #[inline]
     pub fn shape(&self) -> Shape
         ensures { seen_of result ≡ label_shape self.now }
@@ -263,7 +263,7 @@ impl Label {
     }
 }
 
-// A number of 32 bits.
+// Returns a number of 32 bits.
 #[inline(always)]
 fn short(name: NumberName, value: u32) -> NamedNumber
     ensures { result ≡ named_number name value }
@@ -271,7 +271,7 @@ fn short(name: NumberName, value: u32) -> NamedNumber
     long(name, u64::from(value))
 }
 
-// A number of 64 bits.
+// Returns a number of 64 bits.
 #[inline(always)]
 fn long(name: NumberName, value: u64) -> NamedNumber
     ensures { result ≡ named_number name value }
@@ -279,7 +279,7 @@ fn long(name: NumberName, value: u64) -> NamedNumber
     NamedNumber { name, value }
 }
 
-// A word with these numbers.
+// Returns a word with these numbers.
 #[inline(always)]
 fn with_numbers(word: &'static str, numbers: Numbers) -> Shape
     ensures { seen_of result ≡ without_end word.now numbers }
@@ -291,7 +291,7 @@ fn with_numbers(word: &'static str, numbers: Numbers) -> Shape
     }
 }
 
-// A word alone.
+// Returns a word alone.
 #[inline(always)]
 fn word(word: &'static str) -> Shape
     ensures { seen_of result ≡ word_alone word.now }
@@ -299,7 +299,7 @@ fn word(word: &'static str) -> Shape
     with_numbers(word, Numbers::None)
 }
 
-// A word with a number.
+// Returns a word with a number.
 #[inline(always)]
 fn one(word: &'static str, first: NamedNumber) -> Shape
     ensures { seen_of result ≡ with_one word.now first }
@@ -307,7 +307,7 @@ fn one(word: &'static str, first: NamedNumber) -> Shape
     with_numbers(word, Numbers::One { first })
 }
 
-// A word with two numbers.
+// Returns a word with two numbers.
 #[inline(always)]
 fn two(word: &'static str, first: NamedNumber, second: NamedNumber) -> Shape
     ensures { seen_of result ≡ with_two word.now first second }
@@ -315,7 +315,7 @@ fn two(word: &'static str, first: NamedNumber, second: NamedNumber) -> Shape
     with_numbers(word, Numbers::Two { first, second })
 }
 
-// A word with three numbers.
+// Returns a word with three numbers.
 #[inline(always)]
 fn three(word: &'static str, first: NamedNumber, second: NamedNumber, third: NamedNumber) -> Shape
     ensures { seen_of result ≡ with_three word.now first second third }
@@ -340,7 +340,7 @@ fn seen_and_own(word: &'static str, seen: u32, own: u32) -> Shape
     )
 }
 
-// A word with a length and the most that there may be.
+// Returns a word with a length and the most that there may be.
 #[inline(always)]
 fn len_and_max(word: &'static str, len: u32, max: u32) -> Shape
     ensures { seen_of result ≡ with_len_and_max word.now len max }
@@ -352,7 +352,7 @@ fn len_and_max(word: &'static str, len: u32, max: u32) -> Shape
     )
 }
 
-// A word with a queue and the number of an entry.
+// Returns a word with a queue and the number of an entry.
 #[inline(always)]
 fn of_entry(word: &'static str, queue: u32, number: u64) -> Shape
     ensures { seen_of result ≡ with_entry word.now queue number }
@@ -364,7 +364,7 @@ fn of_entry(word: &'static str, queue: u32, number: u64) -> Shape
     )
 }
 
-// A word with the label of a write.
+// Returns a word with the label of a write.
 #[inline(always)]
 fn with_label(text: &'static str, label: Label) -> Shape
     ensures { seen_of result ≡ ended (word_alone text.now) (EndsWithLabel label) }
@@ -372,7 +372,7 @@ fn with_label(text: &'static str, label: Label) -> Shape
     ending(word(text), ShapeEnd::Label { label })
 }
 
-// A shape with another end.
+// Returns a shape with another end.
 #[inline(always)]
 fn ending(shape: Shape, end: ShapeEnd) -> Shape
     ensures { seen_of result ≡ ended (seen_of shape) end }
@@ -380,7 +380,7 @@ fn ending(shape: Shape, end: ShapeEnd) -> Shape
     Shape { end, ..shape }
 }
 
-// The label of a write that is shown, or the word that there is none.
+// Returns the label of a write that is shown, or the word that there is none.
 #[inline(always)]
 fn shown(label: Option<Label>) -> ShapeEnd
     ensures { result ≡ shown_end label }

@@ -248,7 +248,7 @@ pub enum Step {
 }
 
 impl Step {
-    /// The number of the pair that the step is made on.
+    /// Returns the number of the pair that the step is made on.
     pub fn subject(&self) -> u32
         ensures { result ≡ subject_of self.now }
     {
@@ -400,7 +400,7 @@ pub enum Answer {
 }
 
 impl Answer {
-    /// Whether a step that got this answer was made: any other answer refuses it.
+    /// Returns whether a step that got this answer was made: any other answer refuses it.
     #[inline]
     pub fn is_made(&self) -> bool
         ensures { result ≡ is_made self.now }

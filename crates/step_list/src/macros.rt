@@ -52,7 +52,7 @@ pub enum Macro {
 }
 
 impl Repeated {
-    /// The step that is repeated.
+    /// Returns the step that is repeated.
     pub fn step(self) -> Step
         ensures { result ≡ step_again self }
     {
@@ -69,7 +69,7 @@ impl Repeated {
 }
 
 impl Macro {
-    /// How many steps the line has: at most 2^33.
+    /// Returns how many steps the line has: at most 2^33.
     pub fn count(&self) -> u64
         ensures value { result ≡ length (steps_of self.now) }
         ensures few { result ≤ 2 ^ 33 }

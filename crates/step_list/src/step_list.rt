@@ -62,7 +62,7 @@ impl StepList {
         }
     }
 
-    /// The steps as they are kept, in order.
+    /// Returns the steps as they are kept, in order.
     pub fn stretches(&self) -> &[Stretch]
         ensures { all_lines result.now ≡ self.now }
     {
@@ -123,7 +123,7 @@ impl StepList {
         Ok(())
     }
 
-    // A stretch of one step.
+    // Returns a stretch of one step.
     fn one(&self, line: u32, step: Step) -> Result<Stretch, AllocError>
         ensures { IfOk result (λ stretch. lines_in stretch ≡ lines_with line (step ∷ [])) }
     {
@@ -138,7 +138,7 @@ impl StepList {
         self.stretches.clear();
     }
 
-    /// All steps, one by one. Returns an error if memory runs out.
+    /// Returns all steps, one by one. Returns an error if memory runs out.
     pub fn into_items(self, alloc: Global) -> Result<Items<Line>, AllocError>
         ensures { IfOk result (λ lines. lines ≡ self) }
     {
@@ -161,7 +161,7 @@ impl Model for StepList {
     ghost view = { λ list. all_lines list.stretches.items };
 }
 
-// A step of a line, this many times.
+// Returns a step of a line, this many times.
 fn again(line: u32, repeated: Repeated, count: u32) -> Stretch
     ensures { lines_in result ≡ lines_with line (replicate count (step_again repeated)) }
 {

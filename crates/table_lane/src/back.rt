@@ -38,7 +38,8 @@ pub enum BackAnswer {
     Idle,
 }
 
-// The number of the entry from `freed` on at this position, which isn't that of the last entry that was given back.
+// Returns the number of the entry from `freed` on at this position, which isn't that of the last entry that was given
+// back.
 fn number_at(entries: u64, freed: u64, last: u64, position: u64) -> u64
     requires ring { (2 ≤ entries) × (entries ≤ most_traffic_entries) × (freed ≤ most_lane_frames) }
     requires new { (position < entries) × (position ≢ last) × (last ≡ tail_of entries freed) }

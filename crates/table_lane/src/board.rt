@@ -50,14 +50,14 @@ pub(crate) const CUT: u64 = 1;
 /// How many words that nobody reads follow each list of words, and each single word.
 const SPACING: u64 = 15;
 
-/// The header of entry `n`.
+/// Returns the header of entry `n`.
 pub(crate) fn header_of(n: u64) -> u64
     ensures { result ≡ header_of n }
 {
     (1 << 32) + n % (1 << 32)
 }
 
-/// The position of entry `n`.
+/// Returns the position of entry `n`.
 pub(crate) fn position_of(entries: u64, n: u64) -> u64
     requires { 2 ≤ entries }
     ensures { result ≡ n % entries }
@@ -78,7 +78,7 @@ pub(crate) fn position_after(entries: u64, position: u64, more: u64) -> u64
     }
 }
 
-/// The word that the sender stores for the entry at this position.
+/// Returns the word that the sender stores for the entry at this position.
 pub(crate) fn posted_word(entries: u64, position: u64) -> usize
     requires { position < entries }
     ensures { result ≡ position }
@@ -86,7 +86,7 @@ pub(crate) fn posted_word(entries: u64, position: u64) -> usize
     position as usize
 }
 
-/// The word that the mover stores for the entry at this position.
+/// Returns the word that the mover stores for the entry at this position.
 pub(crate) fn header_word(entries: u64, position: u64) -> usize
     requires { (position < entries) × (entries ≤ most_traffic_entries) }
     ensures { result ≡ entries + spacing + position }
@@ -94,7 +94,7 @@ pub(crate) fn header_word(entries: u64, position: u64) -> usize
     (entries + SPACING + position) as usize
 }
 
-/// The word of the flag of the entry at this position.
+/// Returns the word of the flag of the entry at this position.
 pub(crate) fn flag_word(entries: u64, position: u64) -> usize
     requires { (position < entries) × (entries ≤ most_traffic_entries) }
     ensures { result ≡ 2 * (entries + spacing) + position }
@@ -102,7 +102,7 @@ pub(crate) fn flag_word(entries: u64, position: u64) -> usize
     (2 * (entries + SPACING) + position) as usize
 }
 
-/// The word in which the receiver says how far it has given back.
+/// Returns the word in which the receiver says how far it has given back.
 pub(crate) fn index_out_word(entries: u64) -> usize
     requires { entries ≤ most_traffic_entries }
     ensures { result ≡ index_out_word entries }
@@ -110,7 +110,7 @@ pub(crate) fn index_out_word(entries: u64) -> usize
     (3 * (entries + SPACING)) as usize
 }
 
-/// The word in which the sender reads how far the receiver has given back.
+/// Returns the word in which the sender reads how far the receiver has given back.
 pub(crate) fn index_word(entries: u64) -> usize
     requires { entries ≤ most_traffic_entries }
     ensures { result ≡ index_word entries }
@@ -118,7 +118,7 @@ pub(crate) fn index_word(entries: u64) -> usize
     index_out_word(entries) + (1 + SPACING) as usize
 }
 
-/// The word that says whether the link is cut.
+/// Returns the word that says whether the link is cut.
 pub(crate) fn link_word(entries: u64) -> usize
     requires { entries ≤ most_traffic_entries }
     ensures { result ≡ link_word entries }
@@ -126,7 +126,7 @@ pub(crate) fn link_word(entries: u64) -> usize
     index_word(entries) + (1 + SPACING) as usize
 }
 
-/// How many words there are.
+/// Returns how many words there are.
 pub(crate) fn words_in(entries: u64) -> usize
     requires { entries ≤ most_traffic_entries }
     ensures { result ≡ words_in entries }

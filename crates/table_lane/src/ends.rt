@@ -27,7 +27,7 @@ type FourTables = (
     Arc<LaneTable, Global>,
 );
 
-// The words of a new table: all 0, but both indices name the last position.
+// Returns the words of a new table: all 0, but both indices name the last position.
 fn start_words(alloc: Global, entries: u64) -> Result<Vec<u64>, AllocError>
     requires { (2 ≤ entries) × (entries ≤ most_traffic_entries) }
     ensures { IfOk result (λ words. words.items ≡ words_of (first_words entries)) }
@@ -38,7 +38,7 @@ fn start_words(alloc: Global, entries: u64) -> Result<Vec<u64>, AllocError>
     Ok(words)
 }
 
-// A table that shows a new lane, and the seat with all its parts.
+// Returns a table that shows a new lane, and the seat with all its parts.
 fn new_table(alloc: Global, entries: u64) -> Result<(LaneTable, LaneSeat), AllocError>
     requires { (2 ≤ entries) × (entries ≤ most_traffic_entries) }
     ensures { IfOk result (λ t. IsTableOf entries t.0.shared.table_id t.0.shared.key × (t.1.table_id ≡ t.0.shared.table_id) × (t.1.me ≡ (all_parts entries, []))) }
@@ -47,7 +47,7 @@ fn new_table(alloc: Global, entries: u64) -> Result<(LaneTable, LaneSeat), Alloc
     LaneTable::vacant(alloc, &words, entries as usize, &entries)
 }
 
-// An empty list with room for this many frames.
+// Returns an empty list with room for this many frames.
 fn room_for(alloc: Global, entries: u64) -> Result<FrameList, AllocError>
     requires { entries ≤ most_traffic_entries }
     ensures { IfOk result (λ list. (list.frames ≡ []) × (list.spare ≡ entries)) }
@@ -57,7 +57,7 @@ fn room_for(alloc: Global, entries: u64) -> Result<FrameList, AllocError>
     Ok(list)
 }
 
-// What four more ends share of a table.
+// Returns what four more ends share of a table.
 fn four_more(table: &Arc<LaneTable, Global>) -> Result<FourTables, AllocError>
     ensures { IfOk result (λ more. (arc_value more.0 ≡ arc_value table.now) × (arc_value more.1 ≡ arc_value table.now) × (arc_value more.2 ≡ arc_value table.now) × (arc_value more.3 ≡ arc_value table.now)) }
 {
@@ -68,7 +68,7 @@ fn four_more(table: &Arc<LaneTable, Global>) -> Result<FourTables, AllocError>
     Ok((first, second, third, fourth))
 }
 
-// The seats of the mover, the receiver, the way back and the cut, split off that of the sender.
+// Returns the seats of the mover, the receiver, the way back and the cut, split off that of the sender.
 fn split_off(board: &Board, send: &mut LaneSeat) -> (LaneSeat, LaneSeat, LaneSeat, LaneSeat)
     requires table { (send.old.table_id ≡ board.now.table_id) × (0 < board.now.table_id.words) }
     ensures table { (send.new.table_id ≡ board.now.table_id) × (result.0.table_id ≡ board.now.table_id) × (result.1.table_id ≡ board.now.table_id) × (result.2.table_id ≡ board.now.table_id) × (result.3.table_id ≡ board.now.table_id) }

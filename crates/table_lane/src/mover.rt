@@ -40,7 +40,7 @@ pub enum MoveAnswer {
     Idle,
 }
 
-// The choice modulo a count, which it mostly is below.
+// Returns the choice modulo a count, which it mostly is below.
 fn reduced(choice: u64, count: u64) -> u64
     requires { 0 < count }
     ensures { result ≡ choice % count }
@@ -52,14 +52,14 @@ fn reduced(choice: u64, count: u64) -> u64
 }
 
 impl MoveEnd {
-    // How many entries wait for their header.
+    // Returns how many entries wait for their header.
     fn waiting_count(&self) -> usize
         ensures value { result ≡ length (waiting self.now.part.flagged self.now.part.stored) }
     {
         self.waiting.len()
     }
 
-    // Whether an entry is held and the header of the first one is stored.
+    // Returns whether an entry is held and the header of the first one is stored.
     fn is_flag_open(&self) -> bool
         ensures { result ≡ slice_index_or self.now.part.stored 0 false }
     {

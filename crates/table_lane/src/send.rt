@@ -41,7 +41,7 @@ fn frame_is_short(frame: &Frame)
     let _len = frame.len();
 }
 
-// The free entries, as head and index word show them.
+// Returns the free entries, as head and index word show them.
 fn free_entries(entries: u64, head: u64, tail: u64) -> u64
     requires { (head < entries) × (tail < entries) × (entries ≤ most_traffic_entries) }
     ensures { result ≡ free_entries entries head tail }

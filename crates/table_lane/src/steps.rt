@@ -22,7 +22,7 @@ use crate::plays::{
 };
 use step_kinds::Frame;
 
-// The sender loads the link word.
+// Returns the sender loads the link word.
 pub(crate) fn load_link(table: &Board, seat: &mut LaneSeat, entries: u64) -> u64
     requires table { (seat.old.table_id ≡ table.now.table_id) × IsTableOf entries table.now.table_id table.now.key }
     requires part { HasSend seat.old.me.0 }
@@ -139,7 +139,7 @@ pub(crate) fn acknowledge(table: &Board, seat: &mut LaneSeat, entries: u64, posi
     table.store::<StoresIndexOut>(seat, index_out_word(entries), position);
 }
 
-// The way back loads index out.
+// Returns the way back loads index out.
 pub(crate) fn load_index_out(table: &Board, seat: &mut LaneSeat, entries: u64) -> u64
     requires table { (seat.old.table_id ≡ table.now.table_id) × IsTableOf entries table.now.table_id table.now.key }
     requires part { HasBack seat.old.me.0 }

@@ -12,7 +12,7 @@ use std::thread::Threads;
 /// More bytes than any text here has.
 const TEXT_ROOM: usize = 100_000;
 
-/// The words of a command line. It may be out of memory.
+/// Returns the words of a command line. It may be out of memory.
 pub(crate) fn words_of(alloc: Global, texts: &[&str]) -> Result<Vec<String>, AllocError> {
     let mut words = Vec::new(alloc);
     for text in texts {
@@ -21,7 +21,7 @@ pub(crate) fn words_of(alloc: Global, texts: &[&str]) -> Result<Vec<String>, All
     Ok(words)
 }
 
-/// What the program answers to a command over a script, and what it wrote. It may be out of memory.
+/// Returns what the program answers to a command over a script, and what it wrote. It may be out of memory.
 pub(crate) fn answer_to<R: Threads + Wait + Sync, G: Gate>(
     rt: &R,
     alloc: Global,

@@ -63,14 +63,14 @@ impl Meeting {
         }
     }
 
-    // Whether all came.
+    // Returns whether all came.
     fn have_come(&self) -> bool {
         self.flags
             .iter()
             .all(|flags| flags.came.load(Ordering::SeqCst))
     }
 
-    // Whether each saw all come.
+    // Returns whether each saw all come.
     fn have_seen(&self) -> bool {
         self.flags
             .iter()
@@ -106,7 +106,7 @@ impl Gate for Meeting {
     }
 }
 
-// Whether status 0 came with this text and this many proofs.
+// Returns whether status 0 came with this text and this many proofs.
 fn is_answer(ended: &Ended, sink: &MemorySink, text: &str, proofs: usize) -> bool {
     ended.status == 0 && sink.held() == text.as_bytes() && ended.proofs.len() == proofs
 }

@@ -76,8 +76,8 @@ struct Counts {
     written: Vec<u8>,
 }
 
-// What words over the script come to, where the source gives and the sink takes at most this many bytes a call. It may
-// be out of memory.
+// Returns what words over the script come to, where the source gives and the sink takes at most this many bytes a call.
+// It may be out of memory.
 fn counts_of<R: Threads + Wait + Sync>(
     rt: &R,
     alloc: Global,
@@ -106,8 +106,8 @@ fn counts_of<R: Threads + Wait + Sync>(
     })
 }
 
-// Whether the script is read in as many pieces of this many bytes as it has, and then its end once. Its text has to be
-// written in as many as it has. It may be out of memory.
+// Returns whether the script is read in as many pieces of this many bytes as it has, and then its end once. Its text
+// has to be written in as many as it has. It may be out of memory.
 fn is_taken_in<R: Threads + Wait + Sync>(
     rt: &R,
     alloc: Global,

@@ -32,7 +32,7 @@ impl Gate for Counter {
     }
 }
 
-// The fewest turns that a command's workers told in any try. It may be out of memory.
+// Returns the fewest turns that a command's workers told in any try. It may be out of memory.
 fn fewest_turns<R: Threads + Wait + Sync>(
     rt: &R,
     alloc: Global,

@@ -49,7 +49,7 @@ impl Turns {
         }
     }
 
-    // How many sessions the worker began.
+    // Returns how many sessions the worker began.
     fn begun(&self) -> u64 {
         self.begun.load(Ordering::SeqCst)
     }
@@ -85,14 +85,14 @@ impl Recorder {
         })
     }
 
-    // Whether the worker told only of turns that count on.
+    // Returns whether the worker told only of turns that count on.
     fn keeps(&self, worker: u32, turn: u64) -> bool {
         self.turns
             .get(worker as usize)
             .is_some_and(|turns| turns.keeps(turn))
     }
 
-    // Whether the link of lane 0 is being cut.
+    // Returns whether the link of lane 0 is being cut.
     fn is_cutting(&self) -> bool {
         self.turns
             .get(CUTTER)
@@ -115,7 +115,7 @@ impl Recorder {
         }
     }
 
-    // Whether no turn was wrong, and each worker began this many sessions.
+    // Returns whether no turn was wrong, and each worker began this many sessions.
     fn has_kept(&self, sessions: &[u64]) -> bool {
         !self.is_wrong.load(Ordering::SeqCst)
             && self.turns.len() == sessions.len()

@@ -51,21 +51,21 @@ pub enum Change {
     Nothing,
 }
 
-/// The change by a step that was made, and nothing where it wasn't.
+/// Returns the change by a step that was made, and nothing where it wasn't.
 pub fn only_if(made: bool, change: Change) -> Change
     ensures { result ≡ (if made then change else Nothing) }
 {
     if made { change } else { Change::Nothing }
 }
 
-/// The change by a step that posts a write of this class where it is made.
+/// Returns the change by a step that posts a write of this class where it is made.
 pub fn posts_if(made: bool, side: Side, class: u32) -> Change
     ensures { result ≡ (if made then Posts side class else Nothing) }
 {
     only_if(made, Change::Posts { side, class })
 }
 
-/// The change by the training of a link.
+/// Returns the change by the training of a link.
 pub fn trained(answer: &Answer) -> Change
     ensures { result ≡ change_by no_pair (Train 0) answer.now }
 {
@@ -76,7 +76,7 @@ pub fn trained(answer: &Answer) -> Change
     }
 }
 
-/// The change by a landing at a place.
+/// Returns the change by a landing at a place.
 pub fn landing(side: Side, place: u32, answer: &Answer) -> Change
     ensures { result ≡ change_by no_pair (Land 0 side place) answer.now }
 {
@@ -89,7 +89,8 @@ pub fn landing(side: Side, place: u32, answer: &Answer) -> Change
     }
 }
 
-/// The change by the post of a queue's write. It is lost where the pair is raw and the peer lacks the write's window.
+/// Returns the change by the post of a queue's write. It is lost where the pair is raw and the peer lacks the write's
+/// window.
 pub fn queue_post(pairs: &[PairPlan], pair: u32, side: Side, queue: u32, label: &Label) -> Change
     ensures { result ≡ queue_posts (slice_index_or pairs.now pair no_pair) side queue label.now }
 {
@@ -103,7 +104,7 @@ pub fn queue_post(pairs: &[PairPlan], pair: u32, side: Side, queue: u32, label: 
     }
 }
 
-// Whether a write that a side posts is in flight then, where the link is up.
+// Returns whether a write that a side posts is in flight then, where the link is up.
 fn goes_through(pairs: &[PairPlan], pair: u32, side: Side, label: &Label) -> bool
     ensures { result ≡ is_through (slice_index_or pairs.now pair no_pair) side label.now }
 {
@@ -113,7 +114,8 @@ fn goes_through(pairs: &[PairPlan], pair: u32, side: Side, label: &Label) -> boo
     }
 }
 
-// Whether the peer has the window that a side's write goes through. A doorbell and a scratchpad go through none.
+// Returns whether the peer has the window that a side's write goes through. A doorbell and a scratchpad go through
+// none.
 fn has_window(plan: &PairPlan, side: Side, label: &Label) -> bool
     ensures { result ≡ is_there plan.now side label.now }
 {
@@ -130,7 +132,8 @@ fn has_window(plan: &PairPlan, side: Side, label: &Label) -> bool
     window < side_plan(plan, side.other()).windows
 }
 
-// The window that a side sends through on a queue. A side without windows, which no script declares, has the queue's.
+// Returns the window that a side sends through on a queue. A side without windows, which no script declares, has the
+// queue's.
 fn window_on(plan: &PairPlan, side: Side, queue: u32) -> u32
     ensures { result ≡ window_of (layout_of plan.now side queue) }
 {

@@ -63,7 +63,7 @@ fn push_truth(text: &mut Vec<u8>, name: &str, holds: bool) -> Result<(), AllocEr
     push_word(text, if holds { "true" } else { "false" })
 }
 
-// The version that a pair speaks: 5 where both sides declare it, else 4.
+// Returns the version that a pair speaks: 5 where both sides declare it, else 4.
 fn agreed_version(pair: &PairPlan) -> u32
     ensures { result ≡ version_of pair.now }
 {

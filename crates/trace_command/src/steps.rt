@@ -26,7 +26,7 @@ pub fn push_step(text: &mut Vec<u8>, plan: &Plan, step: &Step) -> Result<(), All
     push_word(text, "}")
 }
 
-// The word of a step in a script.
+// Returns the word of a step in a script.
 fn step_name(step: &Step) -> &'static str
     ensures { result.now ≡ name_of_step step.now }
 {
@@ -179,7 +179,7 @@ fn push_step_members(text: &mut Vec<u8>, plan: &Plan, step: &Step) -> Result<(),
     }
 }
 
-/// What a step on one of these pairs changes, where it was answered so.
+/// Returns what a step on one of these pairs changes, where it was answered so.
 pub fn change_in(pairs: &[PairPlan], step: &Step, answer: &Answer) -> Change
     ensures { result ≡ change_of_pairs pairs.now step.now answer.now }
 {

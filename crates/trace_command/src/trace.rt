@@ -75,7 +75,7 @@ impl<'a> TraceLines<'a> {
     }
 }
 
-/// The trace of a script. It has, one after another:
+/// Returns the trace of a script. It has, one after another:
 ///
 /// - its head, with the version of its form and a line for each pair,
 /// - a line for each step, in the order in which they are made,
@@ -91,7 +91,7 @@ pub fn trace_text(alloc: Global, script: &Script) -> Result<Vec<u8>, AllocError>
     text_by(alloc, script, &mut cluster)
 }
 
-// The trace of a script, whose steps a cluster makes that has made none.
+// Returns the trace of a script, whose steps a cluster makes that has made none.
 fn text_by(alloc: Global, script: &Script, cluster: &mut Cluster) -> Result<Vec<u8>, AllocError>
     requires whole { IsWhole (plan_in script.now) }
     requires made { HasReplayed (plan_in script.now) [] cluster.old }

@@ -6,7 +6,7 @@ ghost use Rattle.trace_command.specs.Words.{number_name as name_of_number};
 
 use step_kinds::{NumberName, Side};
 
-/// The name of a number, with the comma before it and the colon after it.
+/// Returns the name of a number, with the comma before it and the colon after it.
 pub fn number_name(name: NumberName) -> &'static str
     ensures { result.now ≡ name_of_number name }
 {
@@ -32,7 +32,7 @@ pub fn number_name(name: NumberName) -> &'static str
     }
 }
 
-/// The letter of a side.
+/// Returns the letter of a side.
 pub fn side_name(side: Side) -> &'static str
     ensures { result.now ≡ side_text side }
 {

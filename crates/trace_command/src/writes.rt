@@ -67,21 +67,22 @@ impl SideNumbers {
         }
     }
 
-    /// How many writes with a number the side posted: the number of the next one.
+    /// Returns how many writes with a number the side posted: the number of the next one.
     pub fn posted(&self) -> u64
         ensures { result ≡ self.now.posted }
     {
         self.posted
     }
 
-    /// How many writes are in flight.
+    /// Returns how many writes are in flight.
     pub fn in_flight(&self) -> usize
         ensures { result ≡ length self.now.flight }
     {
         self.flight.len()
     }
 
-    /// The write at a place in flight, 0 for the one that was posted first. If none is, its number and its class are 0.
+    /// Returns the write at a place in flight, 0 for the one that was posted first. If none is, its number and its
+    /// class are 0.
     pub fn write_at(&self, place: usize) -> FlyingWrite
         ensures { result ≡ write_at self.now.flight place }
     {
@@ -92,8 +93,8 @@ impl SideNumbers {
         self.flight.label_at(place).copied().unwrap_or(none)
     }
 
-    /// The number of the write that stops the one at a place: the last before it of the same traffic class. It is 0
-    /// where none before it has that class.
+    /// Returns the number of the write that stops the one at a place: the last before it of the same traffic class. It
+    /// is 0 where none before it has that class.
     pub fn stopped_by(&self, place: usize) -> u64
         ensures { result ≡ stopped_by self.now.flight place }
     {
@@ -156,8 +157,8 @@ pub struct PairNumbers {
 }
 
 impl PairNumbers {
-    /// A pair before any step, where its link is declared up or isn't: one that is up is in session 1. It takes no
-    /// memory yet.
+    /// Returns a pair before any step, where its link is declared up or isn't: one that is up is in session 1. It takes
+    /// no memory yet.
     pub fn new(alloc: Global, up: bool) -> PairNumbers
         ensures { result ≡ pair_start (record no_pair { up = up }) }
     {
@@ -169,14 +170,14 @@ impl PairNumbers {
         }
     }
 
-    /// Whether the link is up.
+    /// Returns whether the link is up.
     pub fn up(&self) -> bool
         ensures { result ≡ self.now.up }
     {
         self.up
     }
 
-    /// The session that the pair is in or was in last. It is 0 before the first.
+    /// Returns the session that the pair is in or was in last. It is 0 before the first.
     pub fn session(&self) -> u32
         ensures { result ≡ self.now.session }
     {
@@ -272,7 +273,7 @@ impl WriteNumbers {
         })
     }
 
-    /// The pair of this number. If there is none, it is one whose link is down and that posted no write.
+    /// Returns the pair of this number. If there is none, it is one whose link is down and that posted no write.
     pub fn pair(&self, number: u32) -> &PairNumbers
         ensures { result.now ≡ pair_in self.now number }
     {

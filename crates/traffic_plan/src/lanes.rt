@@ -39,7 +39,7 @@ pub fn lane_traffic(alloc: Global, plan: &Plan, lane: LaneName) -> Result<FrameL
     Ok(list)
 }
 
-/// Whether an item of the traffic is a loss of the pair's link.
+/// Returns whether an item of the traffic is a loss of the pair's link.
 fn is_break_of(item: &Traffic, pair: u32) -> bool
     ensures { result ≡ is_break_of pair item.now }
 {
@@ -49,7 +49,7 @@ fn is_break_of(item: &Traffic, pair: u32) -> bool
     }
 }
 
-/// How many losses of a pair's link the plan's traffic has. The traffic has fewer than 2^32 items.
+/// Returns how many losses of a pair's link the plan's traffic has. The traffic has fewer than 2^32 items.
 pub fn breaks(plan: &Plan, pair: u32) -> u32
     requires { length plan.now.traffic < 2 ^ 32 }
     ensures { result ≡ count_by (is_break_of pair) plan.now.traffic }

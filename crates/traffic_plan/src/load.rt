@@ -19,7 +19,7 @@ use step_list::StepList;
 /// The most frames of a load.
 pub const MOST_LOAD_FRAMES: u32 = 30_000;
 
-/// The two words of the next frame.
+/// Returns the two words of the next frame.
 fn frame_words(words: &mut SplitMix64) -> (u64, u64)
     ensures first { result.0 ≡ word_at words.old }
     ensures second { result.1 ≡ word_at (state_past words.old) }
@@ -29,7 +29,7 @@ fn frame_words(words: &mut SplitMix64) -> (u64, u64)
     (word, words.next_word())
 }
 
-/// The pair.
+/// Returns the pair.
 fn load_pair() -> PairPlan
     ensures { result ≡ load_pair }
 {
@@ -42,7 +42,7 @@ fn load_pair() -> PairPlan
     pair_with(Name::of_bytes(b"p"), &[Setting::Up, size, mtu])
 }
 
-/// The bytes of a word, the lowest first, eight times.
+/// Returns the bytes of a word, the lowest first, eight times.
 #[inline]
 fn eight_times(word: u64) -> [u8; 64]
     ensures { result ≡ eight_of (bytes_low_first 0 8 word) }
@@ -55,7 +55,7 @@ fn eight_times(word: u64) -> [u8; 64]
     ]
 }
 
-/// The bytes of a frame, by its first word.
+/// Returns the bytes of a frame, by its first word.
 fn payload(alloc: Global, word: u64) -> Result<Frame, AllocError>
     ensures value { IfOk result (λ frame. frame ≡ payload_of word) }
     ensures len { IfOk result (λ frame. length frame ≡ length_of word) }
@@ -99,7 +99,7 @@ pub struct LoadFrames {
 }
 
 impl LoadFrames {
-    /// The frames of the loads of this seed, of which none was given yet.
+    /// Returns the frames of the loads of this seed, of which none was given yet.
     pub fn new(seed: u64) -> LoadFrames
         ensures { result ≡ frames_given seed 0 }
     {
@@ -143,7 +143,7 @@ impl Model for LoadFrames {
     ghost invariant = { λ load. (load.words ≡ state_after load.seed (2 * load.given)) × (load.given ≤ most_load_frames) };
 }
 
-/// The steps of all frames.
+/// Returns the steps of all frames.
 fn load_lines(alloc: Global, seed: u64, frames: u32) -> Result<Items<Line>, AllocError>
     requires { frames ≤ most_load_frames }
     ensures { IfOk result (λ lines. lines ≡ (load_of seed frames).steps) }
@@ -157,9 +157,9 @@ fn load_lines(alloc: Global, seed: u64, frames: u32) -> Result<Items<Line>, Allo
     steps.into_items(alloc)
 }
 
-/// The plan of each load, but for its steps. Its pair, named `p`, starts up with version 4, one queue, one window of
-/// 4,096 bytes and an mtu of 1,023 on both sides. It is neither strict nor raw, and each class is 0. Returns an error
-/// if memory runs out.
+/// Returns the plan of each load, but for its steps. Its pair, named `p`, starts up with version 4, one queue, one
+/// window of 4,096 bytes and an mtu of 1,023 on both sides. It is neither strict nor raw, and each class is 0. Returns
+/// an error if memory runs out.
 pub fn load_without_steps(alloc: Global) -> Result<Plan, AllocError>
     ensures { IfOk result (λ plan. plan ≡ plan_of []) }
 {
@@ -174,7 +174,7 @@ pub fn load_without_steps(alloc: Global) -> Result<Plan, AllocError>
     })
 }
 
-/// The plan of a load of this many frames, 1 to 30,000, by a seed. Returns an error if memory runs out.
+/// Returns the plan of a load of this many frames, 1 to 30,000, by a seed. Returns an error if memory runs out.
 ///
 /// Its pair is that of [`load_without_steps`]. SplitMix64 (Steele, Lea and Flood) gives two words of 64 bits a frame.
 /// By the first a frame has 1 to 300 bytes, which are the word's own, the lowest first, again and again. The number of

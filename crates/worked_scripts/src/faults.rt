@@ -78,8 +78,8 @@ impl<R: Threads + Wait + Sync> Program<'_, R> {
         Ok(false)
     }
 
-    // Whether the test's script, cut after each of its line feeds, is a script, and gives the same text without its
-    // last line feed.
+    // Returns whether the test's script, cut after each of its line feeds, is a script, and gives the same text without
+    // its last line feed.
     fn tells_cuts(&self, test: &Test) -> Result<bool, AllocError> {
         let mut passed = true;
         for (place, byte) in test.script.iter().enumerate() {
@@ -90,7 +90,7 @@ impl<R: Threads + Wait + Sync> Program<'_, R> {
         Ok(passed)
     }
 
-    // Whether a script that is cut after a line feed is a script, and gives the same text without it.
+    // Returns whether a script that is cut after a line feed is a script, and gives the same text without it.
     fn tells_cut(&self, test: &Test, place: usize) -> Result<bool, AllocError>
         requires { place < length test.now.script.items }
     {
@@ -99,21 +99,21 @@ impl<R: Threads + Wait + Sync> Program<'_, R> {
         Ok(cut.ends_with(b"end\n".as_slice()) && unended == cut)
     }
 
-    // Whether words that are no command are answered with `usage` and status 2.
+    // Returns whether words that are no command are answered with `usage` and status 2.
     fn tells_other_words(&self) -> Result<bool, AllocError> {
         let words = vec![in self.alloc; String::from_str(self.alloc, "reply")?]?;
         let end = self.run(&words, &[], Streams::of_pieces(FAILING_PIECE))?;
         Ok(is_end(&end, 2, b"usage\n"))
     }
 
-    // Whether an input of a byte too many is answered with `too long` and status 7.
+    // Returns whether an input of a byte too many is answered with `too long` and status 7.
     fn tells_long_input(&self, test: &Test) -> Result<bool, AllocError> {
         let comment = vec![in self.alloc; b'#'; TOO_MANY]?;
         let end = self.run(&test.words, &comment, Streams::of_pieces(TOO_MANY))?;
         Ok(is_end(&end, 7, b"too long\n"))
     }
 
-    // What is written to a script.
+    // Returns what is written to a script.
     fn text_of(&self, test: &Test, script: &[u8]) -> Result<Vec<u8>, AllocError> {
         let end = self.run(&test.words, script, Streams::of_pieces(FAILING_PIECE))?;
         Ok(end.text)

@@ -24,7 +24,7 @@ fn main(rt: HostRuntime) -> io::Result<()> {
 }
 
 impl<R: Print + Threads + Wait + Sync> Program<'_, R> {
-    // What comes of each test, as long as there is one.
+    // Returns what comes of each test, as long as there is one.
     fn tell_tests<I: BufRead>(&self, input: &mut I) -> io::Result<()> {
         for _ in 0..u64::MAX {
             match read_test(self.alloc, input)? {
@@ -35,7 +35,7 @@ impl<R: Print + Threads + Wait + Sync> Program<'_, R> {
         Ok(())
     }
 
-    // Whether a test has passed, and what else is told of it.
+    // Returns whether a test has passed, and what else is told of it.
     fn tell_test(&self, test: &Test) -> io::Result<()> {
         tell(self.rt, self.passes(test)?, test.name.as_str())?;
         match test.way {
@@ -45,7 +45,7 @@ impl<R: Print + Threads + Wait + Sync> Program<'_, R> {
     }
 }
 
-// Whether what has this name has passed.
+// Returns whether what has this name has passed.
 fn tell<R: Print>(rt: &R, passed: bool, name: &str) -> io::Result<()> {
     let verdict = if passed { "passed" } else { "FAILED" };
     println!(rt; "{verdict}: {name}")

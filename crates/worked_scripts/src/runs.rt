@@ -45,8 +45,8 @@ pub struct End {
 }
 
 impl<R: Threads + Wait + Sync> Program<'_, R> {
-    /// Whether the program answers a test's status and writes what is wanted, in whatever pieces its input and its
-    /// output come. It may be out of memory.
+    /// Returns whether the program answers a test's status and writes what is wanted, in whatever pieces its input and
+    /// its output come. It may be out of memory.
     pub fn passes(&self, test: &Test) -> Result<bool, AllocError> {
         match test.way {
             Way::Once => self.passes_in_pieces(test, MOST_TEXT),
@@ -94,7 +94,7 @@ fn calls_of(alloc: Global, call: Option<u64>) -> Result<Vec<u64>, AllocError> {
     Ok(calls)
 }
 
-// Whether a text has all that is wanted of it.
+// Returns whether a text has all that is wanted of it.
 fn has_all(alloc: Global, text: &[u8], wanted: &[Wanted]) -> Result<bool, AllocError> {
     let mut passed = true;
     for one in wanted {
@@ -116,14 +116,14 @@ fn has(alloc: Global, text: &[u8], wanted: &Wanted) -> Result<bool, AllocError> 
     }
 }
 
-// Whether these lines stand in a text, one after the other, from the start of a line on.
+// Returns whether these lines stand in a text, one after the other, from the start of a line on.
 fn has_lines(text: &[u8], lines: &[u8]) -> bool {
     text.starts_with(lines)
         || text.windows(lines.len() + 1).any(|window| window.first() == Some(&b'\n')
             && window.ends_with(lines))
 }
 
-// Whether all lines of a text whose first words stand at the head of a wanted line are the wanted ones.
+// Returns whether all lines of a text whose first words stand at the head of a wanted line are the wanted ones.
 fn has_answers(alloc: Global, text: &str, wanted: &str) -> Result<bool, AllocError> {
     let numbers: Vec<&str> = wanted.lines().map(first_word).collect(alloc)?;
     let mut left = wanted.lines();
@@ -136,7 +136,7 @@ fn has_answers(alloc: Global, text: &str, wanted: &str) -> Result<bool, AllocErr
     Ok(passed && left.next().is_none())
 }
 
-// Whether all lines of a text that begin with no number, but for `end`, are the wanted ones.
+// Returns whether all lines of a text that begin with no number, but for `end`, are the wanted ones.
 fn has_ending(text: &str, wanted: &str) -> bool {
     let mut left = wanted.lines();
     let mut passed = true;

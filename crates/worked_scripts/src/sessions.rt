@@ -27,9 +27,9 @@ struct LaneSeen {
     is_right: bool,
 }
 
-/// Whether a text is that of a run whose lanes come to what these lines say. Each line has the pair, the side, the
-/// queue, the number of sessions, and the number and the length of the frames of the lane's flood. It may be
-/// out of memory.
+/// Returns whether a text is that of a run whose lanes come to what these lines say. Each line has the pair, the side,
+/// the queue, the number of sessions, and the number and the length of the frames of the lane's flood. Returns an error
+/// if memory runs out.
 pub fn are_sessions(alloc: Global, text: &str, lanes: &str) -> Result<bool, AllocError> {
     let mut passed = text.ends_with("\nend\n");
     for lane in lanes.lines() {
@@ -39,7 +39,7 @@ pub fn are_sessions(alloc: Global, text: &str, lanes: &str) -> Result<bool, Allo
     Ok(passed)
 }
 
-// Whether the lines of one lane are those of its flood.
+// Returns whether the lines of one lane are those of its flood.
 fn lane_is_right(alloc: Global, text: &str, words: &[&str]) -> Result<bool, AllocError> {
     let [pair, side, queue, sessions, frames, len] = words else {
         return Ok(false);
@@ -131,7 +131,7 @@ fn take_frame(seen: &mut LaneSeen, flood: &LaneFlood, word: &str, number: &str, 
 /// Hexadecimal digits.
 const DIGITS: [u8; 16] = *b"0123456789abcdef";
 
-// Whether these are the digits of a flood's frame: byte j of frame i is i + j modulo 256.
+// Returns whether these are the digits of a flood's frame: byte j of frame i is i + j modulo 256.
 fn is_frame_of(flood: &LaneFlood, frame: u64, hex: &[u8]) -> bool {
     let mut passed = hex.len() as u64 == flood.len.saturating_mul(2);
     for (place, digits) in hex.chunks(2).enumerate() {
@@ -143,7 +143,7 @@ fn is_frame_of(flood: &LaneFlood, frame: u64, hex: &[u8]) -> bool {
     passed
 }
 
-// A number, or one that none is.
+// Returns a number, or one that none is.
 fn number_of(word: &str) -> u64 {
     word.parse::<u64>().unwrap_or(u64::MAX)
 }

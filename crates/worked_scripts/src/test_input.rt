@@ -52,7 +52,7 @@ pub struct Test {
     pub wanted: Vec<Wanted>,
 }
 
-/// The next test, if there is one.
+/// Returns the next test, if there is one.
 ///
 /// # Errors
 ///
