@@ -9,7 +9,7 @@ use Rattle.step_kinds.specs.declared.names.Side.{Side}
 use Rattle.step_kinds.specs.declared.names.Side.TheVariants.{A, B}
 use Rattle.step_kinds.specs.declared.plan.PairPlan.{PairPlan}
 use Rattle.plan_numbers.specs.Memories.{memory_size}
-use Rattle.bridge_pair.specs.Bridge.{Bridge, IsBook, bytes_of, pages_of, with_memory, with_pages, with_bytes}
+use Rattle.bridge_pair.specs.Bridge.{Bridge, IsBook, bridge_bytes_of, pages_of, with_memory, with_pages, with_bytes}
 use Rattle.bridge_pair.specs.Ends.{bytes_after}
 use Rattle.bridge_pair.specs.Fresh.{fresh_book, fresh_stores, fresh_bridge, fresh_bridge_with, started_memory, whole_book, zero_memory}
 use Rattle.bridge_pair.specs.Links.{no_book}
@@ -29,7 +29,7 @@ fresh_is_book plan side = by_up plan.up where
 
 -- index words are set
 abbrev with_words : Bridge → Side → Bridge
-with_words bridge side = with_bytes bridge side (bytes_after (fresh_index_words bridge.plan side) (bytes_of bridge side))
+with_words bridge side = with_bytes bridge side (bytes_after (fresh_index_words bridge.plan side) (bridge_bytes_of bridge side))
 
 promised_first : (old : Bridge) (side : Side) (pages : List ℕ) → with_words (with_pages old side pages) side ≡ with_memory old side (started_memory old side pages)
 promised_first old A pages = refl

@@ -3,14 +3,14 @@ use Rattle.std.proofs.Common.{◌≡◌, ℕ, ◌-◌, Bool, true, false, List, 
 use Rattle.pair_model.specs.Link.{is_up, enable_refusal, train_refusal, cut_refusal, drop_refusal, clean_refusal}
 use Rattle.pair_model.specs.declared.LinkRefusal.{LinkRefusal}
 use Rattle.posted_queue.specs.Flight.{Flight}
-use Rattle.posted_queue.specs.Landing.{after_landing}
+use Rattle.posted_queue.specs.Landing.{flight_after_landing}
 use Rattle.posted_queue.specs.declared.LandAnswer.{LandAnswer}
 use Rattle.posted_queue.specs.declared.LandAnswer.TheVariants.{Landed, Blocked, Nothing}
 use Rattle.step_kinds.specs.Sides.{other_side}
 use Rattle.step_kinds.specs.declared.names.Side.{Side}
 use Rattle.step_kinds.specs.declared.names.Side.TheVariants.{A, B}
 use Rattle.bridge_pair.specs.Bridge.{Bridge, pages_of, flight_of, with_bytes, with_flight}
-use Rattle.bridge_pair.specs.Calls.{after_land, after_landed, arrived, landing}
+use Rattle.bridge_pair.specs.Calls.{after_land, after_landed, bridge_arrived, landing}
 use Rattle.bridge_pair.specs.Ends.{after_posting}
 use Rattle.bridge_pair.specs.Flights.{Flying, flying_order, flying_of}
 use Rattle.bridge_pair.specs.Laws.{KeepsPromises, PostingUsesOnePromise, LandingKeepsPromises, LinkStepsKeepPromises, OwnWritesKeepPromises}
@@ -58,7 +58,7 @@ posting_uses_one_promise bridge B write =
 -- Landing
 
 -- what arrives promises nothing
-arrival_keeps : (bridge : Bridge) (side : Side) (arrival : Arrival) → KeepsPromises bridge (arrived bridge side arrival)
+arrival_keeps : (bridge : Bridge) (side : Side) (arrival : Arrival) → KeepsPromises bridge (bridge_arrived bridge side arrival)
 arrival_keeps bridge side (AtAddress at bytes) = bytes_keep bridge side _
 arrival_keeps bridge side (AtPad index value) = record { plan = refl; pages = λ other. refl; spare = λ other. refl }
 arrival_keeps bridge side (AtBell bit) = record { plan = refl; pages = λ other. refl; spare = λ other. refl }
@@ -78,9 +78,9 @@ same_spare : (lands : Bool) (flight taken : Flight Flying) → taken.spare ≡ f
 same_spare true flight taken same = same
 same_spare false flight taken same = refl
 
-taken_keeps : (bridge : Bridge) (side : Side) (place : ℕ) → KeepsPromises bridge (with_flight bridge side (after_landing flying_order (flight_of bridge side) place))
+taken_keeps : (bridge : Bridge) (side : Side) (place : ℕ) → KeepsPromises bridge (with_flight bridge side (flight_after_landing flying_order (flight_of bridge side) place))
 taken_keeps bridge side place = record { plan = refl; pages = λ other. refl; spare = spare side } where
-  spare : (side other : Side) → (flight_of (with_flight bridge side (after_landing flying_order (flight_of bridge side) place)) other).spare ≡ (flight_of bridge other).spare
+  spare : (side other : Side) → (flight_of (with_flight bridge side (flight_after_landing flying_order (flight_of bridge side) place)) other).spare ≡ (flight_of bridge other).spare
   spare A A = same_spare _ bridge.flights.a _ refl
   spare A B = refl
   spare B A = refl
@@ -89,7 +89,7 @@ taken_keeps bridge side place = record { plan = refl; pages = λ other. refl; sp
 -- A landing leaves all promised pages and all promised room in flight, whatever it is answered.
 pub landing_keeps_promises : LandingKeepsPromises
 landing_keeps_promises bridge side place =
-    let taken = with_flight bridge side (after_landing flying_order (flight_of bridge side) place) in
+    let taken = with_flight bridge side (flight_after_landing flying_order (flight_of bridge side) place) in
     keeps_both bridge taken (after_land bridge side place) (taken_keeps bridge side place) (answer_keeps taken (other_side side) (landing bridge side place))
 
 -- The link

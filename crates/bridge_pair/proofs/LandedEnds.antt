@@ -3,11 +3,11 @@ use Rattle.std.proofs.Common.{◌≡◌, ◌∙◌, ℕ, ap, refl, subst, sym}
 use Rattle.step_kinds.specs.declared.names.Side.{Side}
 use Rattle.step_kinds.specs.declared.names.Side.TheVariants.{A, B}
 use Rattle.step_kinds.specs.Sides.{other_side}
-use Rattle.posted_queue.specs.Landing.{after_landing}
+use Rattle.posted_queue.specs.Landing.{flight_after_landing}
 use Rattle.posted_queue.specs.declared.LandAnswer.{LandAnswer}
 use Rattle.posted_queue.specs.declared.LandAnswer.TheVariants.{Blocked, Landed, Nothing}
 use Rattle.bridge_pair.specs.Bridge.{Bridge, flight_of, with_flight}
-use Rattle.bridge_pair.specs.Calls.{after_land, after_landed, arrived, landing}
+use Rattle.bridge_pair.specs.Calls.{after_land, after_landed, bridge_arrived, landing}
 use Rattle.bridge_pair.specs.Ends.{End, after_arrival}
 use Rattle.bridge_pair.specs.Flights.{Flying, flying_order}
 use Rattle.bridge_pair.specs.Same.{EndsLandAs, HasSameEnds, IsSameEnd, LandsAs, LandsAsEnd}
@@ -21,7 +21,7 @@ use Rattle.bridge_pair.proofs.SameBridges.{end_a, end_b, same_ends}
 
 -- an end without the write at a place of those that come
 abbrev taken_from : End → ℕ → End
-taken_from end place = record end { coming = after_landing flying_order end.coming place }
+taken_from end place = record end { coming = flight_after_landing flying_order end.coming place }
 
 -- a pair with another end at a side
 
@@ -33,20 +33,20 @@ with_b pair end = record pair { b = end }
 
 -- what arrives at an end arrives at the bridge
 
-arrives_b : (one : Inside) (place : ℕ) (arrival : Arrival) → bridge_seen (with_b one (after_arrival (taken_from one.b place) arrival)) ≡ arrived (with_flight (bridge_seen one) A (after_landing flying_order one.b.coming place)) B arrival
+arrives_b : (one : Inside) (place : ℕ) (arrival : Arrival) → bridge_seen (with_b one (after_arrival (taken_from one.b place) arrival)) ≡ bridge_arrived (with_flight (bridge_seen one) A (flight_after_landing flying_order one.b.coming place)) B arrival
 arrives_b one place (AtAddress at bytes) = refl
 arrives_b one place (AtPad index value) = refl
 arrives_b one place (AtBell bit) = refl
 
-arrives_a : (one : Inside) (place : ℕ) (arrival : Arrival) → bridge_seen (with_a one (after_arrival (taken_from one.a place) arrival)) ≡ arrived (with_flight (bridge_seen one) B (after_landing flying_order one.a.coming place)) A arrival
+arrives_a : (one : Inside) (place : ℕ) (arrival : Arrival) → bridge_seen (with_a one (after_arrival (taken_from one.a place) arrival)) ≡ bridge_arrived (with_flight (bridge_seen one) B (flight_after_landing flying_order one.a.coming place)) A arrival
 arrives_a one place (AtAddress at bytes) = refl
 arrives_a one place (AtPad index value) = refl
 arrives_a one place (AtBell bit) = refl
 
 -- a bridge on which a write landed is the one at which it arrived
 landed_is : (bridge : Bridge) (side : Side) (place : ℕ) (flying : Flying) → landing bridge side place ≡ Landed flying
-    → after_land bridge side place ≡ arrived (with_flight bridge side (after_landing flying_order (flight_of bridge side) place)) (other_side side) flying.arrival
-landed_is bridge side place flying lands = ap (after_landed (with_flight bridge side (after_landing flying_order (flight_of bridge side) place)) (other_side side)) lands
+    → after_land bridge side place ≡ bridge_arrived (with_flight bridge side (flight_after_landing flying_order (flight_of bridge side) place)) (other_side side) flying.arrival
+landed_is bridge side place flying lands = ap (after_landed (with_flight bridge side (flight_after_landing flying_order (flight_of bridge side) place)) (other_side side)) lands
 
 module _ (one other : Inside) (place : ℕ) where
   -- the ends of the bridges, by the two ends that are kept: of a write that side A posted
@@ -118,7 +118,7 @@ module _ (one other : Inside) (place : ℕ) (seen shown : Bridge) (is : bridge_s
 abbrev HasSameRest : Bridge → Bridge → Type 0
 HasSameRest new old = (new.link ≡ old.link) × (new.books ≡ old.books)
 
-arrived_rest : (bridge : Bridge) (side : Side) (arrival : Arrival) → HasSameRest (arrived bridge side arrival) bridge
+arrived_rest : (bridge : Bridge) (side : Side) (arrival : Arrival) → HasSameRest (bridge_arrived bridge side arrival) bridge
 arrived_rest bridge side (AtAddress at bytes) = (refl, refl)
 arrived_rest bridge side (AtPad index value) = (refl, refl)
 arrived_rest bridge side (AtBell bit) = (refl, refl)
@@ -126,7 +126,7 @@ arrived_rest bridge side (AtBell bit) = (refl, refl)
 rest_stays : (bridge : Bridge) (side : Side) (place : ℕ) → HasSameRest (after_land bridge side place) bridge
 rest_stays bridge side place = by_answer (landing bridge side place) where
   taken : Bridge
-  taken = with_flight bridge side (after_landing flying_order (flight_of bridge side) place)
+  taken = with_flight bridge side (flight_after_landing flying_order (flight_of bridge side) place)
 
   by_answer : (answer : LandAnswer Flying) → HasSameRest (after_landed taken (other_side side) answer) bridge
   by_answer (Landed flying) = arrived_rest taken (other_side side) flying.arrival

@@ -4,7 +4,7 @@ use Rattle.bridge_regs.specs.Doorbell.{Doorbell}
 use Rattle.pair_model.specs.Both.{Both}
 use Rattle.step_kinds.specs.declared.names.Side.{Side}
 use Rattle.step_kinds.specs.declared.names.Side.TheVariants.{A, B}
-use Rattle.bridge_pair.specs.Bridge.{Bridge, bytes_of, flight_of}
+use Rattle.bridge_pair.specs.Bridge.{Bridge, bridge_bytes_of, flight_of}
 use Rattle.bridge_pair.specs.Same.{HasSameEnds, IsSameEnd}
 use Rattle.bridge_pair.specs.Views.{bridge_seen}
 use Rattle.bridge_pair.specs.declared.pair.Pair.TheInside.{Inside}
@@ -19,7 +19,7 @@ ends_seen one other a b =
       writes = writes;
     }
   where
-    bytes : (side : Side) → bytes_of (bridge_seen one) side ≡ bytes_of (bridge_seen other) side
+    bytes : (side : Side) → bridge_bytes_of (bridge_seen one) side ≡ bridge_bytes_of (bridge_seen other) side
     bytes A = a.bytes
     bytes B = b.bytes
 

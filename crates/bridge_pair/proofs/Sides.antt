@@ -2,7 +2,7 @@
 use Rattle.std.proofs.Common.{◌≡◌, ℕ, List, refl, ap, ◌∙◌}
 use Rattle.step_kinds.specs.declared.names.Side.{Side}
 use Rattle.step_kinds.specs.declared.names.Side.TheVariants.{A, B}
-use Rattle.bridge_pair.specs.Bridge.{Bridge, bytes_of, pages_of, with_bytes, with_pages}
+use Rattle.bridge_pair.specs.Bridge.{Bridge, bridge_bytes_of, pages_of, with_bytes, with_pages}
 
 -- Setting a side's promised pages twice leaves the bridge as setting them once, to the second pages, does.
 pub with_pages-twice : (bridge : Bridge) (side : Side) (pages more : List ℕ) → with_pages (with_pages bridge side pages) side more ≡ with_pages bridge side more
@@ -15,7 +15,7 @@ pages_of-with_bytes bridge A bytes = refl
 pages_of-with_bytes bridge B bytes = refl
 
 -- A side's memory whose bytes are set has the bytes that were set.
-pub bytes_of-with_bytes : (bridge : Bridge) (side : Side) (bytes : List ℕ) → bytes_of (with_bytes bridge side bytes) side ≡ bytes
+pub bytes_of-with_bytes : (bridge : Bridge) (side : Side) (bytes : List ℕ) → bridge_bytes_of (with_bytes bridge side bytes) side ≡ bytes
 bytes_of-with_bytes bridge A bytes = refl
 bytes_of-with_bytes bridge B bytes = refl
 
@@ -33,9 +33,9 @@ pages_again old now new side so_far more =
     more ∙ ap (λ (bridge : Bridge). with_pages bridge side (pages_of new side)) so_far ∙ with_pages-twice old side (pages_of now side) (pages_of new side)
 
 -- Setting a side's bytes and then making something of them is setting them at once to what is made of them.
-pub bytes_again : (old now new : Bridge) (side : Side) (bytes : List ℕ) (f : List ℕ → List ℕ) → now ≡ with_bytes old side bytes → new ≡ with_bytes now side (f (bytes_of now side))
+pub bytes_again : (old now new : Bridge) (side : Side) (bytes : List ℕ) (f : List ℕ → List ℕ) → now ≡ with_bytes old side bytes → new ≡ with_bytes now side (f (bridge_bytes_of now side))
     → new ≡ with_bytes old side (f bytes)
 bytes_again old now new side bytes f so_far more =
-    more ∙ ap (λ (bridge : Bridge). with_bytes bridge side (f (bytes_of bridge side))) so_far
-    ∙ with_bytes-twice old side bytes (f (bytes_of (with_bytes old side bytes) side))
+    more ∙ ap (λ (bridge : Bridge). with_bytes bridge side (f (bridge_bytes_of bridge side))) so_far
+    ∙ with_bytes-twice old side bytes (f (bridge_bytes_of (with_bytes old side bytes) side))
     ∙ ap (λ stored. with_bytes old side (f stored)) (bytes_of-with_bytes old side bytes)

@@ -40,8 +40,8 @@ pads_of bridge side = at_side bridge.pads side
 abbrev pub bells_of : Bridge → Side → Doorbell
 bells_of bridge side = at_side bridge.bells side
 
-abbrev pub bytes_of : Bridge → Side → List ℕ
-bytes_of bridge side = (at_side bridge.memories side).bytes
+abbrev pub bridge_bytes_of : Bridge → Side → List ℕ
+bridge_bytes_of bridge side = (at_side bridge.memories side).bytes
 
 abbrev pub pages_of : Bridge → Side → List ℕ
 pages_of bridge side = (at_side bridge.memories side).promised
@@ -70,7 +70,7 @@ abbrev pub with_bytes : Bridge → Side → List ℕ → Bridge
 with_bytes bridge side bytes = with_memory bridge side (record { bytes = bytes; promised = pages_of bridge side })
 
 abbrev pub with_pages : Bridge → Side → List ℕ → Bridge
-with_pages bridge side pages = with_memory bridge side (record { bytes = bytes_of bridge side; promised = pages })
+with_pages bridge side pages = with_memory bridge side (record { bytes = bridge_bytes_of bridge side; promised = pages })
 
 abbrev pub with_flight : Bridge → Side → Flight Flying → Bridge
 with_flight bridge side flight = record bridge { flights = with_side bridge.flights side flight }
@@ -91,6 +91,6 @@ pub record IsBridge (bridge : Bridge) : Type 0 where
   pub books : (side : Side) → IsBook bridge.plan side (book_of bridge side)
   pub pads : (side : Side) → length (pads_of bridge side) ≡ 16
   pub bells : (side : Side) → FitsRegisters (bells_of bridge side)
-  pub memories : (side : Side) → length (bytes_of bridge side) ≡ memory_size bridge.plan side
+  pub memories : (side : Side) → length (bridge_bytes_of bridge side) ≡ memory_size bridge.plan side
   -- each write in flight has its place at the peer
   pub flights : (side : Side) → All (λ (flying : Flying). HasPlace (at_side bridge.memories (other_side side)) flying.arrival) (flight_of bridge side).writes

@@ -10,12 +10,12 @@ abbrev pub most_few_bytes : ℕ
 most_few_bytes = 8
 
 -- all bytes of the place where they stand
-abbrev pub place_of : Kept → List ℕ
-place_of (Few bytes) = bytes
-place_of (Many buffer) = buffer.value
+abbrev pub flying_place_of : Kept → List ℕ
+flying_place_of (Few bytes) = bytes
+flying_place_of (Many buffer) = buffer.value
 
-abbrev pub bytes_seen : Inside → List ℕ
-bytes_seen bytes = take bytes.len (place_of bytes.kept)
+abbrev pub flying_bytes_seen : Inside → List ℕ
+flying_bytes_seen bytes = take bytes.len (flying_place_of bytes.kept)
 
 -- this many bytes fit the place
 abbrev pub Fit : ℕ → Kept → Type 0

@@ -15,7 +15,7 @@ use Rattle.pair_model.specs.FreshRings.{fresh_index_words}
 use Rattle.pair_model.specs.Plans.{side_plan}
 use Rattle.posted_queue.specs.Flight.{nothing_in_flight}
 use Rattle.plan_numbers.specs.Memories.{memory_size}
-use Rattle.bridge_pair.specs.Bridge.{Bridge, bytes_of, offer_length}
+use Rattle.bridge_pair.specs.Bridge.{Bridge, bridge_bytes_of, offer_length}
 use Rattle.bridge_pair.specs.Ends.{bytes_after}
 use Rattle.bridge_pair.specs.Links.{no_book}
 use Rattle.bridge_pair.specs.declared.book.SideBook.{SideBook}
@@ -61,4 +61,4 @@ fresh_bridge plan pages = fresh_bridge_with plan (record { a = fresh_memory plan
 
 -- a side's memory with its index words, where these pages are promised
 abbrev pub started_memory : Bridge → Side → List ℕ → Contents
-started_memory bridge side pages = record { bytes = bytes_after (fresh_index_words bridge.plan side) (bytes_of bridge side); promised = pages }
+started_memory bridge side pages = record { bytes = bytes_after (fresh_index_words bridge.plan side) (bridge_bytes_of bridge side); promised = pages }

@@ -4,8 +4,8 @@ use Rattle.step_kinds.specs.Sides.{other_side}
 use Rattle.step_kinds.specs.declared.names.Side.{Side}
 use Rattle.bridge_regs.specs.Doorbell.{Doorbell}
 use Rattle.bridge_pair.specs.Bridge.{Bridge, pages_of, flight_of, with_bells, with_book, with_bytes}
-use Rattle.bridge_pair.specs.Calls.{after_land, after_post}
-use Rattle.bridge_pair.specs.Links.{after_clean, after_cut, after_drop, after_enable, after_train}
+use Rattle.bridge_pair.specs.Calls.{after_land, bridge_after_post}
+use Rattle.bridge_pair.specs.Links.{after_clean, bridge_after_cut, bridge_after_drop, after_enable, after_train}
 use Rattle.bridge_pair.specs.Writes.{PostedWrite}
 use Rattle.bridge_pair.specs.declared.book.SideBook.{SideBook}
 
@@ -25,7 +25,7 @@ pub record UsesOnePromise (old new : Bridge) (side : Side) : Type 0 where
 
 -- a write that is posted uses a promise, whether it is in flight then or lost
 abbrev pub PostingUsesOnePromise : Type 0
-PostingUsesOnePromise = (bridge : Bridge) (side : Side) (write : PostedWrite) → UsesOnePromise bridge (after_post bridge side write) side
+PostingUsesOnePromise = (bridge : Bridge) (side : Side) (write : PostedWrite) → UsesOnePromise bridge (bridge_after_post bridge side write) side
 
 -- a landing keeps all promises, whatever its answer
 abbrev pub LandingKeepsPromises : Type 0
@@ -35,8 +35,8 @@ LandingKeepsPromises = (bridge : Bridge) (side : Side) (place : ℕ) → KeepsPr
 pub record LinkStepsKeepPromises : Type 0 where
   pub enable : (bridge : Bridge) (side : Side) → KeepsPromises bridge (after_enable bridge side)
   pub train : (bridge : Bridge) → KeepsPromises bridge (after_train bridge)
-  pub cut : (bridge : Bridge) → KeepsPromises bridge (after_cut bridge)
-  pub drop_done : (bridge : Bridge) → KeepsPromises bridge (after_drop bridge)
+  pub cut : (bridge : Bridge) → KeepsPromises bridge (bridge_after_cut bridge)
+  pub drop_done : (bridge : Bridge) → KeepsPromises bridge (bridge_after_drop bridge)
   pub clean : (bridge : Bridge) (side : Side) → KeepsPromises bridge (after_clean bridge side)
 
 -- and what a side writes at its own end

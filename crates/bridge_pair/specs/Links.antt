@@ -19,15 +19,15 @@ after_enable bridge side = after_step (enable_refusal bridge.link side) bridge (
 abbrev pub after_train : Bridge → Bridge
 after_train bridge = after_step (train_refusal bridge.link) bridge (with_link bridge (trained_link bridge.link))
 
-abbrev pub after_cut : Bridge → Bridge
-after_cut bridge = after_step (cut_refusal bridge.link) bridge (with_link bridge (cut_link bridge.link))
+abbrev pub bridge_after_cut : Bridge → Bridge
+bridge_after_cut bridge = after_step (cut_refusal bridge.link) bridge (with_link bridge (cut_link bridge.link))
 
 -- all that is in flight is dropped, and what was promised stays so
 abbrev pub dropped : Bridge → Bridge
 dropped bridge = record bridge { link = dropped_link bridge.link; flights = record { a = discarded bridge.flights.a; b = discarded bridge.flights.b } }
 
-abbrev pub after_drop : Bridge → Bridge
-after_drop bridge = after_step (drop_refusal bridge.link) bridge (dropped bridge)
+abbrev pub bridge_after_drop : Bridge → Bridge
+bridge_after_drop bridge = after_step (drop_refusal bridge.link) bridge (dropped bridge)
 
 -- a side that has reached nothing
 abbrev pub no_book : SideBook

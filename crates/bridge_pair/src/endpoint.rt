@@ -11,9 +11,9 @@ ghost use Rattle.bridge_pair.specs.Pages.{PagesGrow};
 ghost use Rattle.bridge_pair.specs.Same.{HasSameParts, IsSameEnd, LandsAsEnd};
 ghost use Rattle.bridge_regs.specs.Doorbell.{with_pending};
 ghost use Rattle.pair_model.specs.Headers.{word_bytes};
-ghost use Rattle.host_memory.specs.Memory.{AreAbsent, ArePromised, AreZero, Touches, bytes_at, word_at};
+ghost use Rattle.host_memory.specs.Memory.{AreAbsent, ArePromised, AreZero, Touches, bytes_at, memory_word_at};
 ghost use Rattle.posted_queue.specs.Flight.{discarded, given_back, nothing_in_flight, posted, promised};
-ghost use Rattle.posted_queue.specs.Landing.{after_landing, land_answer};
+ghost use Rattle.posted_queue.specs.Landing.{flight_after_landing, land_answer};
 
 use crate::flying_bytes::{Buffer, FEW, FlyingBytes};
 use crate::flying_write::{Arrival, FlyingWrite};
@@ -187,7 +187,7 @@ impl Endpoint {
     #[inline]
     pub fn land(&mut self, place: usize) -> LandAnswer<Label>
         ensures answer { result ≡ label_landed (land_answer flying_order self.old.coming place) }
-        ensures after { self.new ≡ after_answer (record self.old { coming = after_landing flying_order self.old.coming place }) (land_answer flying_order self.old.coming place) }
+        ensures after { self.new ≡ after_answer (record self.old { coming = flight_after_landing flying_order self.old.coming place }) (land_answer flying_order self.old.coming place) }
         ensures size { length self.new.memory.bytes ≡ length self.old.memory.bytes }
     {
         match self.coming.land(place) {
@@ -255,7 +255,7 @@ impl Endpoint {
 
     pub fn word_at(&self, at: u64) -> u32
         requires { at + 4 ≤ length self.now.memory.bytes }
-        ensures { result ≡ word_at at self.now.memory.bytes }
+        ensures { result ≡ memory_word_at at self.now.memory.bytes }
     {
         self.memory.u32_at(at)
     }

@@ -100,11 +100,11 @@ impl FlyingBytes {
 
 impl Model for FlyingBytes {
     ghost use Rattle.std.specs.Prelude.{ℕ, List};
-    ghost use Rattle.bridge_pair.specs.FlyingBytes.{AreKept, bytes_seen};
+    ghost use Rattle.bridge_pair.specs.FlyingBytes.{AreKept, flying_bytes_seen};
 
     ghost Value = { List ℕ };
 
-    ghost view = { bytes_seen };
+    ghost view = { flying_bytes_seen };
 
     ghost invariant = { AreKept };
 }

@@ -7,7 +7,7 @@ ghost use Rattle.bridge_pair.specs.Pages.{OnlyPagesGrow, PagesGrow};
 ghost use Rattle.bridge_regs.specs.Doorbell.{Doorbell};
 ghost use Rattle.plan_numbers.specs.Memories.{WindowsFit};
 ghost use Rattle.bridge_pair.specs.Words.{AreFreshPages, AreIndexWordsPromised, TouchesIndexWord};
-ghost use Rattle.host_memory.specs.Memory.{AreAbsent, ArePromised, AreZero, Touches, bytes_at, word_at, written};
+ghost use Rattle.host_memory.specs.Memory.{AreAbsent, ArePromised, AreZero, Touches, bytes_at, memory_word_at, written};
 ghost use Rattle.pair_model.specs.FreshRings.{fresh_index_words};
 ghost use Rattle.pair_model.specs.Headers.{word_bytes};
 ghost use Rattle.step_kinds.specs.declared.names.Side.TheVariants.{A, B};
@@ -49,15 +49,15 @@ pub struct Pair {
 }
 
 impl Pair {
-    ghost use Rattle.bridge_pair.specs.Bridge.{Bridge, IsBook, IsBridge, bells_of, book_of, bytes_of, flight_of, pads_of, pages_of, with_book, with_bytes, with_flight, with_memory, with_pages};
-    ghost use Rattle.bridge_pair.specs.Calls.{HasPages, after_land, after_post, landing};
+    ghost use Rattle.bridge_pair.specs.Bridge.{Bridge, IsBook, IsBridge, bells_of, book_of, bridge_bytes_of, flight_of, pads_of, pages_of, with_book, with_bytes, with_flight, with_memory, with_pages};
+    ghost use Rattle.bridge_pair.specs.Calls.{HasPages, after_land, bridge_after_post, landing};
     ghost use Rattle.bridge_pair.specs.Ends.{IsRegister, after_posting, bytes_after, label_landed};
     ghost use Rattle.bridge_pair.specs.Writes.{memory_write};
     ghost use Rattle.bridge_pair.specs.declared.write.Target.TheVariants.{ThroughWindow};
     ghost use Rattle.bridge_pair.specs.Fresh.{fresh_bridge, fresh_bridge_with, started_memory, zero_memory};
     ghost use Rattle.bridge_pair.specs.Lending.{LendsBellsOf};
     ghost use Rattle.std.specs.Borrow.{sem};
-    ghost use Rattle.bridge_pair.specs.Links.{after_clean, after_cut, after_drop, after_enable, after_train};
+    ghost use Rattle.bridge_pair.specs.Links.{after_clean, bridge_after_cut, bridge_after_drop, after_enable, after_train};
     ghost use Rattle.bridge_pair.specs.Same.{EndsLandAs, HasSameEnds, IsSameBridge, LandsAs};
 
     /// Returns the pair of a plan before any step, with nothing in flight. Its memories are zero and its link is down,
@@ -279,7 +279,7 @@ impl Pair {
     ///
     /// [`AllocError`] if memory runs out. Some of the pages may then be promised, and no others; nothing else changes.
     pub fn promise_range(&mut self, side: Side, at: u64, len: u64) -> Result<(), AllocError>
-        requires { at + len ≤ length (bytes_of self.old side) }
+        requires { at + len ≤ length (bridge_bytes_of self.old side) }
         ensures rest { self.new ≡ with_pages self.old side (pages_of self.new side) }
         ensures pages { PagesGrow (Touches at len) (pages_of self.old side) (pages_of self.new side) }
         ensures ok { OnOk result (ArePromised at len (pages_of self.new side)) }
@@ -301,7 +301,7 @@ impl Pair {
         requires promise { 0 < (flight_of self.old side).spare }
         requires translates { Translates self.old.plan side write.target }
         requires pages { HasPages (pages_of self.old (other_side side)) (arrival_of self.old.plan side write.target) }
-        ensures { self.new ≡ after_post self.old side write }
+        ensures { self.new ≡ bridge_after_post self.old side write }
     {
         let Write { label, target } = write;
         match target {
@@ -326,7 +326,7 @@ impl Pair {
         requires few { length bytes.now ≤ most_write_bytes }
         requires translates { Translates self.old.plan side (ThroughWindow window offset bytes.now) }
         requires pages { HasPages (pages_of self.old (other_side side)) (arrival_of self.old.plan side (ThroughWindow window offset bytes.now)) }
-        ensures { self.new ≡ after_post self.old side (memory_write label window offset bytes.now) }
+        ensures { self.new ≡ bridge_after_post self.old side (memory_write label window offset bytes.now) }
     {
         if !self.is_up() {
             return self.give_back(side, 1);
@@ -416,9 +416,9 @@ impl Pair {
     /// Returns whether no page is there of those that the `len` bytes from the address `at` of a side's memory on
     /// touch, which then are all 0. They have to lie in the memory; no bytes touch no page.
     pub fn is_blank(&self, side: Side, at: u64, len: u64) -> bool
-        requires { at + len ≤ length (bytes_of self.now side) }
+        requires { at + len ≤ length (bridge_bytes_of self.now side) }
         ensures absent { IsTrue result ↔ AreAbsent at len (pages_of self.now side) }
-        ensures zeros { IsTrue result → AreZero at len (bytes_of self.now side) }
+        ensures zeros { IsTrue result → AreZero at len (bridge_bytes_of self.now side) }
     {
         match side {
             Side::A => self.a.is_blank(at, len),
@@ -429,8 +429,8 @@ impl Pair {
     /// Reads the bytes of a side's memory from the address `at` on into the whole of `out`. They have to lie in the
     /// memory.
     pub fn local_read(&self, side: Side, at: u64, out: &mut [u8])
-        requires { at + length out.old ≤ length (bytes_of self.now side) }
-        ensures { out.new ≡ bytes_at at (length out.old) (bytes_of self.now side) }
+        requires { at + length out.old ≤ length (bridge_bytes_of self.now side) }
+        ensures { out.new ≡ bytes_at at (length out.old) (bridge_bytes_of self.now side) }
     {
         match side {
             Side::A => self.a.read(at, out),
@@ -440,8 +440,8 @@ impl Pair {
 
     /// Reads the little-endian word of four bytes at the address `at` of a side's memory. All four have to lie in it.
     pub fn local_word(&self, side: Side, at: u64) -> u32
-        requires { at + 4 ≤ length (bytes_of self.now side) }
-        ensures { result ≡ word_at at (bytes_of self.now side) }
+        requires { at + 4 ≤ length (bridge_bytes_of self.now side) }
+        ensures { result ≡ memory_word_at at (bridge_bytes_of self.now side) }
     {
         match side {
             Side::A => self.a.word_at(at),
@@ -452,9 +452,9 @@ impl Pair {
     /// A side writes `bytes` into its own memory, from the address `at` on. They have to lie in the memory, and each
     /// page that they touch has to be promised. It takes no memory.
     pub fn local_write(&mut self, side: Side, at: u64, bytes: &[u8])
-        requires within { at + length bytes.now ≤ length (bytes_of self.old side) }
+        requires within { at + length bytes.now ≤ length (bridge_bytes_of self.old side) }
         requires promised { ArePromised at (length bytes.now) (pages_of self.old side) }
-        ensures { self.new ≡ with_bytes self.old side (written at bytes.now (bytes_of self.old side)) }
+        ensures { self.new ≡ with_bytes self.old side (written at bytes.now (bridge_bytes_of self.old side)) }
     {
         match side {
             Side::A => self.a.write(at, bytes),
@@ -465,9 +465,9 @@ impl Pair {
     /// A side writes `value` into its own memory, as a little-endian word of four bytes at the address `at`. All four
     /// have to lie in the memory, on promised pages. It takes no memory.
     pub fn set_local_word(&mut self, side: Side, at: u64, value: u32)
-        requires within { at + 4 ≤ length (bytes_of self.old side) }
+        requires within { at + 4 ≤ length (bridge_bytes_of self.old side) }
         requires promised { ArePromised at 4 (pages_of self.old side) }
-        ensures { self.new ≡ with_bytes self.old side (written at (word_bytes value) (bytes_of self.old side)) }
+        ensures { self.new ≡ with_bytes self.old side (written at (word_bytes value) (bridge_bytes_of self.old side)) }
     {
         match side {
             Side::A => self.a.set_word(at, value),
@@ -500,7 +500,7 @@ impl Pair {
     pub fn set_index_words(&mut self, side: Side)
         requires fit { WindowsFit self.old.plan side }
         requires promised { AreIndexWordsPromised self.old.plan side (pages_of self.old side) }
-        ensures { self.new ≡ with_bytes self.old side (bytes_after (fresh_index_words self.old.plan side) (bytes_of self.old side)) }
+        ensures { self.new ≡ with_bytes self.old side (bytes_after (fresh_index_words self.old.plan side) (bridge_bytes_of self.old side)) }
     {
         let queues = side_plan(self.plan(), side).queues;
         for queue in (0..queues).rev() {
@@ -571,7 +571,7 @@ impl Pair {
     /// As [`Link::cut`], and then nothing changes.
     pub fn cut(&mut self) -> Result<(), LinkRefusal>
         ensures refusal { result_err result ≡ cut_refusal self.old.link }
-        ensures after { self.new ≡ after_cut self.old }
+        ensures after { self.new ≡ bridge_after_cut self.old }
     {
         self.link.cut()
     }
@@ -583,7 +583,7 @@ impl Pair {
     /// As [`Link::drop_done`], and then nothing changes.
     pub fn drop_done(&mut self) -> Result<(), LinkRefusal>
         ensures refusal { result_err result ≡ drop_refusal self.old.link }
-        ensures after { self.new ≡ after_drop self.old }
+        ensures after { self.new ≡ bridge_after_drop self.old }
     {
         self.link.drop_done()?;
         self.a.discard();

@@ -16,7 +16,7 @@ use Rattle.pair_model.proofs.Facade.{permitted_by_other, queue_of_other, switche
 use Rattle.pair_model.specs.Switch.{new_switch}
 use Rattle.fabric_core.specs.Fabric.{FabricState, StandsFor, bare_plan, plan_kept}
 use Rattle.cluster_core.specs.Cluster.{ClusterState, plan_held}
-use Rattle.cluster_core.specs.LogClauses.{HasMade}
+use Rattle.cluster_core.specs.LogClauses.{HasClusterMade}
 use Rattle.cluster_core.specs.Parts.{HasDeviceOn}
 
 -- Declarations
@@ -73,7 +73,7 @@ stands_by_declared plan fabric stands = record { devs = stands.devs; all_pairs =
 
 -- A cluster with new switches whose fabric represents no steps has made none of any plan that declares the same.
 pub made_none : (plan other : Plan) (cluster : ClusterState) → IsDeclared plan → StandsFor plan [] cluster.fabric → cluster.plans ≡ plan.switches →
-    cluster.switches ≡ map (λ plan. new_switch (length plan.ports)) plan.switches → declared_part other ≡ declared_part plan → HasMade other [] cluster
+    cluster.switches ≡ map (λ plan. new_switch (length plan.ports)) plan.switches → declared_part other ≡ declared_part plan → HasClusterMade other [] cluster
 made_none plan other cluster declared stands plans switches same =
     let own : IsDeclared (declared_part other) = subst IsDeclared (sym same) (declared_other plan plan.switches [] [] declared) in
     record {

@@ -9,7 +9,7 @@ use Rattle.ledger_model.specs.Memory.{memory_of}
 use Rattle.pair_model.specs.Switch.{Switch}
 use Rattle.ledger_model.specs.Network.{Network, OnBridge, action_of, items_from, network_from, next_item, next_network, switches_reached}
 use Rattle.ledger_model.specs.Origins.{Keeping, bytes_kept}
-use Rattle.cluster_core.specs.LogClauses.{log_after, network_after}
+use Rattle.cluster_core.specs.LogClauses.{cluster_log_after, network_after}
 use Rattle.cluster_core.specs.Parts.{part_of}
 use Rattle.cluster_core.specs.declared.parts.StepPart.TheVariants.{OnBridges}
 
@@ -39,7 +39,7 @@ pub network-last : (plan : Plan) (steps : List Step) (step : Step) → network_a
 network-last plan steps step = network_from-last bytes_kept plan (memory_of plan) _ steps step
 
 -- The log of a list of steps and one more is the log of the list with the last step's item after it.
-pub log-last : (plan : Plan) (steps : List Step) (step : Step) → log_after plan (steps ++ step ∷ []) ≡ log_after plan steps ++ item_by plan (network_after plan steps) step ∷ []
+pub log-last : (plan : Plan) (steps : List Step) (step : Step) → cluster_log_after plan (steps ++ step ∷ []) ≡ cluster_log_after plan steps ++ item_by plan (network_after plan steps) step ∷ []
 log-last plan steps step = items_from-last bytes_kept plan (memory_of plan) _ steps step
 
 -- Steps on bridges alone

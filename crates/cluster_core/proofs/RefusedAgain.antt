@@ -18,8 +18,8 @@ use Rattle.pair_model.specs.Switch.{Switch}
 use Rattle.ledger_model.specs.Network.{Action, Network, OnBridge, action_of, item_of, made_after, network_after as network_then, session_after, switches_reached}
 use Rattle.ledger_model.specs.Origins.{bytes_kept}
 use Rattle.cluster_core.specs.Cluster.{ClusterState}
-use Rattle.cluster_core.specs.LogClauses.{IsAnswered, IsNetwork, log_after, network_after}
-use Rattle.cluster_core.specs.Refusals.{RefusedAgain, is_plain}
+use Rattle.cluster_core.specs.LogClauses.{IsClusterAnswered, IsNetwork, cluster_log_after, network_after}
+use Rattle.cluster_core.specs.Refusals.{ClusterRefusedAgain, is_plain_step}
 use Rattle.cluster_core.proofs.Networks.{item_by, log-last, network-last, next_by}
 use Rattle.cluster_core.proofs.StepsOfNetworks.{answered_so}
 
@@ -28,13 +28,13 @@ same_head x y e = cc e
 
 -- Such a step is one on bridges, and a refusal of it brings no frame
 
-plain_action : (plan : Plan) (switches : List (Switch (List ℕ))) (step : Step) → is_plain step ≡ true → action_of plan switches step ≡ OnBridge
+plain_action : (plan : Plan) (switches : List (Switch (List ℕ))) (step : Step) → is_plain_step step ≡ true → action_of plan switches step ≡ OnBridge
 plain_action plan switches (Relay pair side queue switch port) e = absurd (true≢false (sym e))
 plain_action plan switches (Xnext pair side queue dev) e = absurd (true≢false (sym e))
 plain_action plan switches step e = refl
 
 -- as the log of the bridges goes on, the network answers
-pub answer_on_bridges : (plan : Plan) (net : Network (List ℕ)) (step : Step) (answer : Answer) → IsAnsweredOnBridges plan net.steps step answer → is_plain step ≡ true → (item_by plan net step).answer ≡ answer
+pub answer_on_bridges : (plan : Plan) (net : Network (List ℕ)) (step : Step) (answer : Answer) → IsAnsweredOnBridges plan net.steps step answer → is_plain_step step ≡ true → (item_by plan net step).answer ≡ answer
 answer_on_bridges plan net step answer goes plain =
     let made = made_after plan (memory_of plan) net.steps step in
     ap (λ (action : Action (List ℕ)). (item_of bytes_kept plan (memory_of plan) net step action).answer) (plain_action plan net.switches step plain)
@@ -42,7 +42,7 @@ answer_on_bridges plan net step answer goes plain =
     (same_head made (record { step = step; answer = answer })
     (append_cancel_left (Rattle.fabric_core.specs.LogClauses.log_after plan net.steps) (made ∷ []) (record { step = step; answer = answer } ∷ []) (sym (log_of-last plan (memory_of plan) net.steps step) ∙ goes)))
 
-plain_uncounted : (step : Step) → is_plain step ≡ true → counts_refusals step ≡ false
+plain_uncounted : (step : Step) → is_plain_step step ≡ true → counts_refusals step ≡ false
 plain_uncounted (Xbegin pair side queue dev dst kind payload) e = absurd (true≢false (sym e))
 plain_uncounted step e = refl
 
@@ -56,7 +56,7 @@ brings_none : (plan : Plan) (memories : Memories) (switches : List (Switch (List
 brings_none plan memories switches session (Copy pair side queue) answer e = refused_copy plan memories switches session pair side queue answer e
 brings_none plan memories switches session step answer e = refl
 
-module _ (plan : Plan) (step : Step) (answer : Answer) (refused : is_made answer ≡ false) (plain : is_plain step ≡ true) where
+module _ (plan : Plan) (step : Step) (answer : Answer) (refused : is_made answer ≡ false) (plain : is_plain_step step ≡ true) where
   -- the network after such a step has one step more on its bridges
   abbrev one_more : Network (List ℕ) → Network (List ℕ)
   one_more net = record net { steps = net.steps ++ step ∷ [] }
@@ -90,14 +90,14 @@ module _ (plan : Plan) (step : Step) (answer : Answer) (refused : is_made answer
       )
 
 -- The answer with which a cluster's log goes on at a step is that of the network's item for the step.
-pub item_answer : (plan : Plan) (steps : List Step) (step : Step) (answer : Answer) → IsAnswered plan steps step answer → (item_by plan (network_after plan steps) step).answer ≡ answer
+pub item_answer : (plan : Plan) (steps : List Step) (step : Step) (answer : Answer) → IsClusterAnswered plan steps step answer → (item_by plan (network_after plan steps) step).answer ≡ answer
 item_answer plan steps step answer is =
     let item : Answered = item_by plan (network_after plan steps) step in
     ap (λ (made : Answered). made.answer)
-    (same_head _ _ (append_cancel_left (log_after plan steps) (item ∷ []) (record { step = is.stands_as; answer = answer } ∷ []) (sym (log-last plan steps step) ∙ is.goes_on)))
+    (same_head _ _ (append_cancel_left (cluster_log_after plan steps) (item ∷ []) (record { step = is.stands_as; answer = answer } ∷ []) (sym (log-last plan steps step) ∙ is.goes_on)))
 
 -- A refused step, if no xbegin, relay or xnext, is answered the same at once again by a cluster that stays as it is.
-pub refused_again : RefusedAgain
+pub refused_again : ClusterRefusedAgain
 refused_again plan steps step answer cluster answered refused plain made =
     let net = network_after plan steps in
     let is = item_answer plan steps step answer answered in

@@ -14,9 +14,9 @@ use Rattle.ledger_model.specs.Network.{Network}
 use Rattle.fabric_core.specs.LogClauses.{HasMade as HasMadeOnBridges, IsAnswered as IsAnsweredOnBridges, log_after as log_on_bridges}
 use Rattle.fabric_core.proofs.Facade.{key_once_landed as key_on_bridges, one_list_makes_same, same_has_made_same, same_keys as same_fabrics_keys}
 use Rattle.cluster_core.specs.Cluster.{ClusterState, plan_held}
-use Rattle.cluster_core.specs.InFlight.{LandsNoneFrom}
-use Rattle.cluster_core.specs.Laws.{KeyOnceLanded, OneAnswer, SameKeys, SameSteps}
-use Rattle.cluster_core.specs.LogClauses.{HasMade, IsNetwork, network_after}
+use Rattle.cluster_core.specs.InFlight.{ClusterLandsNoneFrom}
+use Rattle.cluster_core.specs.Laws.{ClusterKeyOnceLanded, OneAnswer, SameClusterKeys, SameSteps}
+use Rattle.cluster_core.specs.LogClauses.{HasClusterMade, IsNetwork, network_after}
 use Rattle.cluster_core.proofs.Networks.{network-last}
 use Rattle.cluster_core.proofs.RefusedAgain.{answer_on_bridges, item_answer}
 
@@ -34,7 +34,7 @@ same_steps plan common steps cluster other made owns goes =
     }
 
 -- the keys are those of the fabrics
-pub same_keys : SameKeys
+pub same_keys : SameClusterKeys
 same_keys plan common cluster other made owns =
     same_fabrics_keys plan (network_after plan common).steps cluster.fabric other.fabric made.bridges owns.bridges
 
@@ -47,7 +47,7 @@ one_answer plan steps step answer is = sym (item_answer plan steps step answer i
 
 -- A cluster has made what another has, if its fabric has made what the other's has, with equal plans and switches.
 pub merged : (cluster other : ClusterState) → plan_held cluster ≡ plan_held other → ((plan : Plan) (steps : List Step) → HasMadeOnBridges plan steps cluster.fabric → HasMadeOnBridges plan steps other.fabric) → cluster.switches ≡ other.switches →
-    (plan : Plan) (steps : List Step) → HasMade plan steps cluster → HasMade plan steps other
+    (plan : Plan) (steps : List Step) → HasClusterMade plan steps cluster → HasClusterMade plan steps other
 merged cluster other plans merges switches plan steps made =
     record {
       bridges = merges plan (network_after plan steps).steps made.bridges;
@@ -56,7 +56,7 @@ merged cluster other plans merges switches plan steps made =
     }
 
 -- what has made one list has the same switches
-pub same_switches : (plan : Plan) (steps : List Step) (cluster other : ClusterState) → HasMade plan steps cluster → HasMade plan steps other → cluster.switches ≡ other.switches
+pub same_switches : (plan : Plan) (steps : List Step) (cluster other : ClusterState) → HasClusterMade plan steps cluster → HasClusterMade plan steps other → cluster.switches ≡ other.switches
 same_switches plan steps cluster other made owns = made.switches ∙ sym owns.switches
 
 -- One landing more
@@ -68,7 +68,7 @@ module _ (plan : Plan) (steps : List Step) (pair : ℕ) (side : Side) (place : �
 
   -- so a cluster has made it where its bridges have, and its switches stayed
   pub landed_too : (cluster other : ClusterState) → plan_held cluster ≡ plan_held other → HasMadeOnBridges plan ((network_after plan steps).steps ++ Land pair side place ∷ []) other.fabric → cluster.switches ≡ other.switches
-      → HasMade plan steps cluster → HasMade plan (steps ++ Land pair side place ∷ []) other
+      → HasClusterMade plan steps cluster → HasClusterMade plan (steps ++ Land pair side place ∷ []) other
   landed_too cluster other plans bridges switches made =
       subst (λ (net : Network (List ℕ)). IsNetwork plan net other) (sym landed_network)
       (record {
@@ -78,10 +78,10 @@ module _ (plan : Plan) (steps : List Step) (pair : ℕ) (side : Side) (place : �
       })
 
   -- and where it has, they have
-  pub bridges_landed : (other : ClusterState) → HasMade plan (steps ++ Land pair side place ∷ []) other → HasMadeOnBridges plan ((network_after plan steps).steps ++ Land pair side place ∷ []) other.fabric
+  pub bridges_landed : (other : ClusterState) → HasClusterMade plan (steps ++ Land pair side place ∷ []) other → HasMadeOnBridges plan ((network_after plan steps).steps ++ Land pair side place ∷ []) other.fabric
   bridges_landed other owns = (subst (λ (net : Network (List ℕ)). IsNetwork plan net other) landed_network owns).bridges
 
-  pub switches_stayed : (cluster other : ClusterState) → HasMade plan steps cluster → HasMade plan (steps ++ Land pair side place ∷ []) other → cluster.switches ≡ other.switches
+  pub switches_stayed : (cluster other : ClusterState) → HasClusterMade plan steps cluster → HasClusterMade plan (steps ++ Land pair side place ∷ []) other → cluster.switches ≡ other.switches
   switches_stayed cluster other made owns = made.switches ∙ sym (subst (λ (net : Network (List ℕ)). IsNetwork plan net other) landed_network owns).switches
 
   -- the bridges answer as the network does
@@ -93,7 +93,7 @@ module _ (plan : Plan) (steps : List Step) (pair : ℕ) (side : Side) (place : �
       ∙ ap (λ (answer : Answer). log_on_bridges plan net.steps ++ record { step = Land pair side place; answer = answer } ∷ []) is
 
 -- the key without a write is that of the fabric on which it has landed
-pub key_once_landed : KeyOnceLanded
+pub key_once_landed : ClusterKeyOnceLanded
 key_once_landed plan steps pair side place label cluster after made answered owns =
     key_on_bridges plan (network_after plan steps).steps pair side place label cluster.fabric after.fabric made.bridges (answered_on_bridges plan steps pair side place (Landed label) answered)
     (bridges_landed plan steps pair side place after owns)
@@ -101,7 +101,7 @@ key_once_landed plan steps pair side place label cluster after made answered own
 -- From a place on nothing lands
 
 -- the network answers as the log of its bridges goes on
-pub lands_none : (cluster : ClusterState) (pair : ℕ) (side : Side) (count : ℕ) → LandsNoneOnBridges cluster.fabric pair side count → LandsNoneFrom cluster pair side count
+pub lands_none : (cluster : ClusterState) (pair : ℕ) (side : Side) (count : ℕ) → LandsNoneOnBridges cluster.fabric pair side count → ClusterLandsNoneFrom cluster pair side count
 unfolding answer_after
 lands_none cluster pair side count none plan steps made place beyond =
     let net = network_after plan steps in

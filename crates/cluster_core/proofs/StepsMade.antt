@@ -15,7 +15,7 @@ use Rattle.ledger_model.specs.Memory.{memory_of}
 use Rattle.ledger_model.specs.Network.{Network, items_from, new_network, next_network}
 use Rattle.ledger_model.specs.Origins.{bytes_kept}
 use Rattle.cluster_core.specs.Cluster.{ClusterState, plan_held}
-use Rattle.cluster_core.specs.LogClauses.{HasMade, IsAnswered, log_after}
+use Rattle.cluster_core.specs.LogClauses.{HasClusterMade, IsClusterAnswered, cluster_log_after}
 use Rattle.step_list.specs.StepLists.{all_lines, lines_in}
 use Rattle.step_list.specs.declared.step_list.Stretch.{Stretch}
 use Rattle.step_kinds.specs.AnsweredSteps.{AnsweredStep}
@@ -31,17 +31,17 @@ length-items_from : (plan : Plan) (memories : Memories) (net : Network (List ℕ
 length-items_from plan memories net [] = refl
 length-items_from plan memories net (step ∷ steps) = ap suc (length-items_from plan memories (next_network bytes_kept plan memories net step) steps)
 
-length-log_after : (plan : Plan) (lines : List Line) → length (log_after plan (steps_in lines)) ≡ length lines
+length-log_after : (plan : Plan) (lines : List Line) → length (cluster_log_after plan (steps_in lines)) ≡ length lines
 length-log_after plan lines = length-items_from plan (memory_of plan) (new_network plan) (steps_in lines) ∙ length-map lines step_in
 
 -- so lines after others have as many answers as they are
 pub length-answers : (plan : Plan) (before lines : List Line) (answers : List Answered) →
-    log_after plan (steps_in (before ++ lines)) ≡ log_after plan (steps_in before) ++ answers → length answers ≡ length lines
+    cluster_log_after plan (steps_in (before ++ lines)) ≡ cluster_log_after plan (steps_in before) ++ answers → length answers ≡ length lines
 length-answers plan before lines answers log =
     let all = length-log_after plan (before ++ lines) in
     let first = length-log_after plan before in
-    let both : length (log_after plan (steps_in (before ++ lines))) ≡ length (log_after plan (steps_in before)) + length answers =
-    ap length log ∙ length-append (log_after plan (steps_in before)) answers in
+    let both : length (cluster_log_after plan (steps_in (before ++ lines))) ≡ length (cluster_log_after plan (steps_in before)) + length answers =
+    ap length log ∙ length-append (cluster_log_after plan (steps_in before)) answers in
     let stretches = length-append before lines in
     omega arith
 
@@ -64,30 +64,30 @@ module _ {K : Type 0} (with_answer : K → AnsweredStep → K) (plan : Plan) (be
   kept_none cluster old replayed = record {
     replayed = subst (λ (lines : List Line). HasReplayed plan lines cluster) (sym (append-nil before)) replayed;
     answers = [];
-    log = ap (λ (lines : List Line). log_after plan (steps_in lines)) (append-nil before) ∙ sym (append-nil (log_after plan (steps_in before)));
+    log = ap (λ (lines : List Line). cluster_log_after plan (steps_in lines)) (append-nil before) ∙ sym (append-nil (cluster_log_after plan (steps_in before)));
     kept = refl;
   }
 
   pub kept_one : (line : ℕ) (step : Step) (answer : Answer) (was cluster : ClusterState) (old new : K) → HasReplayed plan before was →
-      HasMade plan (steps_in before ++ step ∷ []) cluster → plan_held cluster ≡ plan_held was → IsAnswered plan (steps_in before) step answer →
+      HasClusterMade plan (steps_in before ++ step ∷ []) cluster → plan_held cluster ≡ plan_held was → IsClusterAnswered plan (steps_in before) step answer →
       new ≡ with_answer old (record { step = step; made = record { line = line; answer = answer } }) → HasKept with_answer plan before (record { line = line; step = step } ∷ []) cluster old new
   kept_one line step answer was cluster old new replayed made same answered kept =
       let last : Line = record { line = line; step = step } in
       let more : steps_in (before ++ last ∷ []) ≡ steps_in before ++ step ∷ [] = map-append step_in before (last ∷ []) in
       record {
         replayed = record {
-          made = subst (λ (steps : List Step). HasMade plan steps cluster) (sym more) made;
+          made = subst (λ (steps : List Step). HasClusterMade plan steps cluster) (sym more) made;
           kept = same ∙ replayed.kept;
         };
         answers = record { step = answered.stands_as; answer = answer } ∷ [];
-        log = ap (log_after plan) more ∙ answered.goes_on;
+        log = ap (cluster_log_after plan) more ∙ answered.goes_on;
         kept = kept;
       }
 
   pub kept_both : (xs ys : List Line) (one two : ClusterState) (old mid new : K) → HasKept with_answer plan before xs one old mid →
       HasKept with_answer plan (before ++ xs) ys two mid new → HasKept with_answer plan before (xs ++ ys) two old new
   kept_both xs ys one two old mid new first second =
-      let log : List Line → List Answered = λ lines. log_after plan (steps_in lines) in
+      let log : List Line → List Answered = λ lines. cluster_log_after plan (steps_in lines) in
       let own : List AnsweredStep → K → K = λ answers kept. fold with_answer kept answers in
       let same = length-answers plan before xs first.answers first.log in
       record {

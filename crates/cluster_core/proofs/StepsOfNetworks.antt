@@ -36,14 +36,14 @@ use Rattle.pair_model.specs.declared.Station.{Station}
 use Rattle.ledger_model.specs.Network.{Action, Network, Rests, Sends, answer_of as relay_answer_of, arrived_at, begin_on, item_of, made_after, network_after as network_then, sends_first, sends_from, session_after, switches_reached, switches_sent}
 use Rattle.ledger_model.specs.Origins.{bytes_kept}
 use Rattle.ledger_model.specs.Ports.{Port, port_from, port_on, switch_of}
-use Rattle.learn_switch.specs.Frames.{Bytes, bytes_relay_answer, goes_on}
-use Rattle.cluster_core.specs.Cluster.{ClusterState, plain, plan_held}
-use Rattle.cluster_core.specs.ClusterStep.{HasStepped}
-use Rattle.cluster_core.specs.LogClauses.{HasMade, IsAnswered, IsNetwork, log_after, network_after}
-use Rattle.cluster_core.specs.Moves.{BringsFrame, brought_in, does_send, port_in, relay_answer_in, relay_goes_on, relayed_in, sending_in, sends_next, taken_in}
-use Rattle.cluster_core.specs.Parts.{HasDeviceOn, part_of, port_seen}
-use Rattle.cluster_core.specs.Refusals.{refused_in}
-use Rattle.cluster_core.specs.Wants.{IsWantedAfter, may_want_memory, sends_waiting}
+use Rattle.learn_switch.specs.Frames.{SwitchBytes, bytes_relay_answer, goes_on}
+use Rattle.cluster_core.specs.Cluster.{ClusterState, plain_cluster, plan_held}
+use Rattle.cluster_core.specs.ClusterStep.{HasClusterStepped}
+use Rattle.cluster_core.specs.LogClauses.{HasClusterMade, IsClusterAnswered, IsNetwork, cluster_log_after, network_after}
+use Rattle.cluster_core.specs.Moves.{BringsFrame, brought_in, does_send, port_in, relay_answer_in, relay_goes_on, relayed_in, sending_in, sends_next, cluster_taken_in}
+use Rattle.cluster_core.specs.Parts.{HasDeviceOn, part_of, cluster_port_seen}
+use Rattle.cluster_core.specs.Refusals.{cluster_refused_in}
+use Rattle.cluster_core.specs.Wants.{IsClusterWantedAfter, cluster_may_want_memory, sends_waiting}
 use Rattle.cluster_core.specs.declared.cluster.NextFrame.{NextFrame}
 use Rattle.cluster_core.specs.declared.ports.PortPlace.{PortPlace}
 use Rattle.cluster_core.specs.declared.parts.StepPart.TheVariants.{Copies, OnBridges, Relays, Sends as SendsNext}
@@ -59,37 +59,37 @@ IsWantedIn plan net cluster step = (answer : Answer) × (answer ≡ (item_by pla
 pub record Goes {E : Type 0} (old new : ClusterState) (step : Step) (result : Result Answer E) : Type 0 where
   pub answered : (plan : Plan) (net : Network (List ℕ)) → IsNetwork plan net old → IfOk result (λ answer. answer ≡ (item_by plan net step).answer)
   pub made : (plan : Plan) (net : Network (List ℕ)) → IsNetwork plan net old → OnOk result (IsNetwork plan (next_by plan net step) new)
-  pub refused : IfOk result (λ answer. is_made answer ≡ false → plain new ≡ plain (refused_in old step))
+  pub refused : IfOk result (λ answer. is_made answer ≡ false → plain_cluster new ≡ plain_cluster (cluster_refused_in old step))
   pub still_made : (plan : Plan) (net : Network (List ℕ)) → IsNetwork plan net old → OnErr result (IsNetwork plan net new)
-  pub err : OnErr result (plain new ≡ plain old)
-  pub wants : IsErr result → may_want_memory old step ≡ true
+  pub err : OnErr result (plain_cluster new ≡ plain_cluster old)
+  pub wants : IsErr result → cluster_may_want_memory old step ≡ true
   pub border : (plan : Plan) (net : Network (List ℕ)) → IsNetwork plan net old → sends_waiting step ≡ false → OnErr result (IsWantedIn plan net old step)
   pub rests : (plan : Plan) (net : Network (List ℕ)) → IsNetwork plan net old → (pair : ℕ) (side : Side) (place : ℕ) → step ≡ Land pair side place →
       IfOk result (λ answer. ((label : Label) → answer ≢ Landed label) → IsNetwork plan net new)
 
 -- An answer that is the one of the network's item for a step is one with which the cluster's log goes on.
 pub answered_so : {E : Type 0} (plan : Plan) (steps : List Step) (step : Step) (result : Result Answer E) →
-    IfOk result (λ answer. answer ≡ (item_by plan (network_after plan steps) step).answer) → IfOk result (λ answer. IsAnswered plan steps step answer)
+    IfOk result (λ answer. answer ≡ (item_by plan (network_after plan steps) step).answer) → IfOk result (λ answer. IsClusterAnswered plan steps step answer)
 answered_so plan steps step (Err error) is = tt
 answered_so plan steps step (Ok answer) is =
     let item : Answered = item_by plan (network_after plan steps) step in
     record {
       stands_as = item.step;
-      goes_on = log-last plan steps step ∙ ap (λ (given : Answer). log_after plan steps ++ record { step = item.step; answer = given } ∷ []) (sym is);
+      goes_on = log-last plan steps step ∙ ap (λ (given : Answer). cluster_log_after plan steps ++ record { step = item.step; answer = given } ∷ []) (sym is);
     }
 
 made_so : {E : Type 0} (plan : Plan) (steps : List Step) (step : Step) (new : ClusterState) (result : Result Answer E) →
-    OnOk result (IsNetwork plan (next_by plan (network_after plan steps) step) new) → OnOk result (HasMade plan (steps ++ step ∷ []) new)
+    OnOk result (IsNetwork plan (next_by plan (network_after plan steps) step) new) → OnOk result (HasClusterMade plan (steps ++ step ∷ []) new)
 made_so plan steps step new (Err error) made = tt
 made_so plan steps step new (Ok answer) made = subst (λ (net : Network (List ℕ)). IsNetwork plan net new) (sym (network-last plan steps step)) made
 
 wanted_so : {E : Type 0} (plan : Plan) (steps : List Step) (cluster : ClusterState) (step : Step) (result : Result Answer E) →
-    OnErr result (IsWantedIn plan (network_after plan steps) cluster step) → OnErr result (IsWantedAfter plan steps cluster step)
+    OnErr result (IsWantedIn plan (network_after plan steps) cluster step) → OnErr result (IsClusterWantedAfter plan steps cluster step)
 wanted_so plan steps cluster step (Err error) wanted = (wanted.0, answered_so {E = ℕ} plan steps step (Ok wanted.0) wanted.1, wanted.2)
 wanted_so plan steps cluster step (Ok answer) wanted = tt
 
 -- A step meets a cluster's contract if it goes right in each network the cluster may be and keeps the cluster's plan.
-pub has_stepped : {E : Type 0} (old new : ClusterState) (step : Step) (result : Result Answer E) → Goes old new step result → plan_held new ≡ plan_held old → HasStepped old new step result
+pub has_stepped : {E : Type 0} (old new : ClusterState) (step : Step) (result : Result Answer E) → Goes old new step result → plan_held new ≡ plan_held old → HasClusterStepped old new step result
 has_stepped old new step result goes same = record {
   answered = λ plan steps made. answered_so plan steps step result (goes.answered plan (network_after plan steps) made);
   made = λ plan steps made. made_so plan steps step new result (goes.made plan (network_after plan steps) made);
@@ -109,10 +109,10 @@ where_err (Err error) is = is
 
 -- clusters of equal parts
 
-abbrev cluster_with : FabricState → List SwitchPlan → List Bytes → ClusterState
+abbrev cluster_with : FabricState → List SwitchPlan → List SwitchBytes → ClusterState
 cluster_with fabric plans switches = record { fabric = fabric; plans = plans; switches = switches }
 
-same_cluster : (fabric fabric' : FabricState) (plans plans' : List SwitchPlan) (switches switches' : List Bytes) → fabric ≡ fabric' → plans ≡ plans' → switches ≡ switches' →
+same_cluster : (fabric fabric' : FabricState) (plans plans' : List SwitchPlan) (switches switches' : List SwitchBytes) → fabric ≡ fabric' → plans ≡ plans' → switches ≡ switches' →
     cluster_with fabric plans switches ≡ cluster_with fabric' plans' switches'
 same_cluster fabric fabric' plans plans' switches switches' f p s = λ i. cluster_with (f i) (p i) (s i)
 
@@ -135,15 +135,15 @@ made_of_frame ports fdb port bytes =
     (made_unicast ports port (lookup known (destination bytes))))
 
 -- so one that is refused leaves the switch as it was
-refused_by_frame : (switch : Bytes) (port : ℕ) (frame : Option (List ℕ)) → is_made (relay_answer_of (answer_to (λ bytes. bytes) switch port frame)) ≡ false → after (λ bytes. bytes) switch port frame ≡ switch
+refused_by_frame : (switch : SwitchBytes) (port : ℕ) (frame : Option (List ℕ)) → is_made (relay_answer_of (answer_to (λ bytes. bytes) switch port frame)) ≡ false → after (λ bytes. bytes) switch port frame ≡ switch
 refused_by_frame switch port None unmade = refl
 refused_by_frame switch port (Some frame) unmade = absurd (true≢false (sym (made_of_frame (length switch.waiting) switch.fdb port frame) ∙ unmade))
 
 refused_relay : (cluster : ClusterState) (port : Port) → is_made (relay_answer_in cluster port) ≡ false → relayed_in cluster port ≡ cluster
 refused_relay cluster port unmade =
     let switch = switch_of cluster.switches port in
-    ap (λ (after : Bytes). record cluster { switches = set cluster.switches port.switch after }) (refused_by_frame switch port.place (slice_get (list_of switch.inboxes port.place) 0) unmade)
-    ∙ ap (λ (switches : List Bytes). record cluster { switches = switches }) (set-get_or cluster.switches port.switch (new_switch 0))
+    ap (λ (after : SwitchBytes). record cluster { switches = set cluster.switches port.switch after }) (refused_by_frame switch port.place (slice_get (list_of switch.inboxes port.place) 0) unmade)
+    ∙ ap (λ (switches : List SwitchBytes). record cluster { switches = switches }) (set-get_or cluster.switches port.switch (new_switch 0))
 
 -- and one whose frame goes on is made
 relay_made : (answer : RelayAnswer) → goes_on answer ≡ true → is_made (relay_answer_of answer) ≡ true
@@ -162,7 +162,7 @@ goes_relayed old new pair side queue switch port (Err error) answer after err wa
   made = λ plan net is. tt;
   refused = tt;
   still_made = λ plan net is. subst (IsNetwork plan net) (sym err) is;
-  err = ap plain err;
+  err = ap plain_cluster err;
   wants = λ failed. wants;
   border = λ plan net is begun. (
     relay_answer_in old (record { switch = switch; place = port }),
@@ -180,7 +180,7 @@ goes_relayed old new pair side queue switch port (Ok given) answer after err wan
         plans = is.plans;
         switches = ap (λ (switches : List (Switch (List ℕ))). (relayed_in (record old { switches = switches }) (record { switch = switch; place = port })).switches) is.switches;
       });
-  refused = λ unmade. ap plain (after ∙ refused_relay old (record { switch = switch; place = port }) (ap is_made (sym answer) ∙ unmade));
+  refused = λ unmade. ap plain_cluster (after ∙ refused_relay old (record { switch = switch; place = port }) (ap is_made (sym answer) ∙ unmade));
   still_made = λ plan net is. tt;
   err = tt;
   wants = λ failed. cc failed;
@@ -198,7 +198,7 @@ plain_after_landing {E = E} plan steps old new pair side place step answer landi
     own.refused (landing_refused plan (memory_of plan) steps pair side place answer (own.answered plan steps made).0 other)
 
 -- what a step on bridges alone wants of a cluster is what it wants of a fabric
-wants_on_bridges : (cluster : ClusterState) (step : Step) → part_of step ≡ OnBridges → may_want_memory cluster step ≡ bridges_may_want step
+wants_on_bridges : (cluster : ClusterState) (step : Step) → part_of step ≡ OnBridges → cluster_may_want_memory cluster step ≡ bridges_may_want step
 wants_on_bridges cluster (Relay pair side queue switch port) e = cc e
 wants_on_bridges cluster (Xnext pair side queue dev) e = cc e
 wants_on_bridges cluster (Copy pair side queue) e = cc e
@@ -275,14 +275,14 @@ goes_resting old own dev rests = record {
 }
 
 -- a begin that is refused takes no frame out
-refused_sent : (switches : List Bytes) (port : Port) (answer : Answer) → is_made answer ≡ false → switches_sent switches port answer ≡ switches
+refused_sent : (switches : List SwitchBytes) (port : Port) (answer : Answer) → is_made answer ≡ false → switches_sent switches port answer ≡ switches
 refused_sent switches port (OkNumber number) unmade = absurd (true≢false unmade)
 refused_sent switches port answer unmade = refl
 
 -- one waits, and is begun
 pub goes_sending : {E : Type 0} (old : ClusterState) (fabric : FabricState) (own : LaneName) (dev : ℕ) (next : NextFrame) (answer : Answer) → sends_next own (Some next) ≡ sending_in old own →
     HasSteppedOnBridges {E = E} old.fabric fabric (begin_on own next.frame) (Ok answer) →
-    Goes {E = E} old (taken_in (record old { fabric = fabric }) next.place answer) (Xnext own.pair own.from own.queue dev) (Ok answer)
+    Goes {E = E} old (cluster_taken_in (record old { fabric = fabric }) next.place answer) (Xnext own.pair own.from own.queue dev) (Ok answer)
 goes_sending old fabric own dev next answer sends stepped = record {
   answered = λ plan net is.
       answer_of plan (memory_of plan) net.steps (begin_on own next.frame) answer (stepped.answered plan net.steps is.bridges).0
@@ -292,18 +292,18 @@ goes_sending old fabric own dev next answer sends stepped = record {
       let told = answer_of plan memories net.steps (begin_on own next.frame) answer (stepped.answered plan net.steps is.bridges).0 in
       subst
       (λ (action : Action (List ℕ)).
-      IsNetwork plan (network_then bytes_kept plan memories net (Xnext own.pair own.from own.queue dev) action) (taken_in (record old { fabric = fabric }) next.place answer))
+      IsNetwork plan (network_then bytes_kept plan memories net (Xnext own.pair own.from own.queue dev) action) (cluster_taken_in (record old { fabric = fabric }) next.place answer))
       (sends ∙ same_sending plan net old own is)
       (record {
         bridges = stepped.stands plan net.steps is.bridges;
         plans = is.plans;
         switches =
-            ap (λ (switches : List (Switch (List ℕ))). switches_sent switches (port_seen next.place) answer) is.switches
-            ∙ ap (switches_sent net.switches (port_seen next.place)) told;
+            ap (λ (switches : List (Switch (List ℕ))). switches_sent switches (cluster_port_seen next.place) answer) is.switches
+            ∙ ap (switches_sent net.switches (cluster_port_seen next.place)) told;
       });
   refused = λ unmade.
-      same_cluster (plain_fabric fabric) (plain_fabric old.fabric) old.plans old.plans (switches_sent old.switches (port_seen next.place) answer) old.switches (stepped.refused unmade) refl
-      (refused_sent old.switches (port_seen next.place) answer unmade);
+      same_cluster (plain_fabric fabric) (plain_fabric old.fabric) old.plans old.plans (switches_sent old.switches (cluster_port_seen next.place) answer) old.switches (stepped.refused unmade) refl
+      (refused_sent old.switches (cluster_port_seen next.place) answer unmade);
   still_made = λ plan net is. tt;
   err = tt;
   wants = λ failed. cc failed;
@@ -422,7 +422,7 @@ brought_plan old fabric own (Some frame) = refl
 -- A relay meets a cluster's contract if the switches answer and make it, or an error leaves the cluster as it was.
 pub relays : {E : Type 0} (old new : ClusterState) (pair : ℕ) (side : Side) (queue switch port : ℕ) (result : Result Answer E) →
     IfOk result (λ answer. answer ≡ relay_answer_in old (record { switch = switch; place = port })) → OnOk result (new ≡ relayed_in old (record { switch = switch; place = port })) →
-    OnErr result (new ≡ old) → OnErr result (relay_goes_on old (record { switch = switch; place = port }) ≡ true) → HasStepped old new (Relay pair side queue switch port) result
+    OnErr result (new ≡ old) → OnErr result (relay_goes_on old (record { switch = switch; place = port }) ≡ true) → HasClusterStepped old new (Relay pair side queue switch port) result
 relays old new pair side queue switch port (Err error) answer after err wants =
     has_stepped old new (Relay pair side queue switch port) (Err error) (goes_relayed old new pair side queue switch port (Err error) answer after err wants) (ap plan_held err)
 relays old new pair side queue switch port (Ok given) answer after err wants =
@@ -430,44 +430,44 @@ relays old new pair side queue switch port (Ok given) answer after err wants =
 
 -- A step on bridges alone meets a cluster's contract if it meets the fabric's and changes nothing else.
 pub on_bridges : {E : Type 0} (kept old : ClusterState) (fabric : FabricState) (step : Step) (result : Result Answer E) → kept ≡ old → part_of step ≡ OnBridges →
-    HasSteppedOnBridges kept.fabric fabric step result → HasStepped old (record kept { fabric = fabric }) step result
+    HasSteppedOnBridges kept.fabric fabric step result → HasClusterStepped old (record kept { fabric = fabric }) step result
 on_bridges kept old fabric step result seen own stepped =
-    subst (λ (old : ClusterState). HasStepped old (record kept { fabric = fabric }) step result) seen
+    subst (λ (old : ClusterState). HasClusterStepped old (record kept { fabric = fabric }) step result) seen
     (has_stepped kept (record kept { fabric = fabric }) step result (goes_on_bridges kept (record kept { fabric = fabric }) step result own stepped refl refl) (plan_after kept fabric stepped.plan))
 
 -- An xnext where no frame is to be sent meets a cluster's contract by the answer `nothing`, which changes nothing.
-pub rests : {E : Type 0} (old : ClusterState) (own : LaneName) (dev : ℕ) → Rests ≡ sending_in old own → HasStepped {E = E} old old (Xnext own.pair own.from own.queue dev) (Ok NoFrame)
+pub rests : {E : Type 0} (old : ClusterState) (own : LaneName) (dev : ℕ) → Rests ≡ sending_in old own → HasClusterStepped {E = E} old old (Xnext own.pair own.from own.queue dev) (Ok NoFrame)
 rests old own dev none = has_stepped old old (Xnext own.pair own.from own.queue dev) (Ok NoFrame) (goes_resting old own dev none) refl
 
 -- An xnext meets a cluster's contract if the fabric begins the first waiting frame, taken from its port if accepted.
 pub sends : {E : Type 0} (kept old new : ClusterState) (fabric : FabricState) (own : LaneName) (dev : ℕ) (next : NextFrame) (answer : Answer) → kept ≡ old → sends_next own (Some next) ≡ sending_in old own →
-    HasSteppedOnBridges {E = E} kept.fabric fabric (begin_on own next.frame) (Ok answer) → new ≡ taken_in (record kept { fabric = fabric }) next.place answer →
-    HasStepped {E = E} old new (Xnext own.pair own.from own.queue dev) (Ok answer)
+    HasSteppedOnBridges {E = E} kept.fabric fabric (begin_on own next.frame) (Ok answer) → new ≡ cluster_taken_in (record kept { fabric = fabric }) next.place answer →
+    HasClusterStepped {E = E} old new (Xnext own.pair own.from own.queue dev) (Ok answer)
 sends {E = E} kept old new fabric own dev next answer seen first stepped after =
     let step : Step = Xnext own.pair own.from own.queue dev in
     let mid : ClusterState = record kept { fabric = fabric } in
     let own_first : sends_next own (Some next) ≡ sending_in kept own = subst (λ (cluster : ClusterState). sends_next own (Some next) ≡ sending_in cluster own) (sym seen) first in
-    subst (λ (new : ClusterState). HasStepped {E = E} old new step (Ok answer)) (sym after)
-    (subst (λ (old : ClusterState). HasStepped {E = E} old (taken_in mid next.place answer) step (Ok answer)) seen
-    (has_stepped kept (taken_in mid next.place answer) step (Ok answer) (goes_sending kept fabric own dev next answer own_first stepped) (plan_after kept fabric stepped.plan)))
+    subst (λ (new : ClusterState). HasClusterStepped {E = E} old new step (Ok answer)) (sym after)
+    (subst (λ (old : ClusterState). HasClusterStepped {E = E} old (cluster_taken_in mid next.place answer) step (Ok answer)) seen
+    (has_stepped kept (cluster_taken_in mid next.place answer) step (Ok answer) (goes_sending kept fabric own dev next answer own_first stepped) (plan_after kept fabric stepped.plan)))
 
 -- An xnext that wants memory meets a cluster's contract if the begin meets the fabric's and nothing else changes.
 pub unstepped : {D E : Type 0} (kept old : ClusterState) (fabric : FabricState) (own : LaneName) (dev : ℕ) (next : NextFrame) (error : D) (given : E) (result : Result Answer E) → kept ≡ old → result ≡ Err given →
     sends_next own (Some next) ≡ sending_in old own → HasSteppedOnBridges {E = D} kept.fabric fabric (begin_on own next.frame) (Err error) →
-    HasStepped {E = E} old (record kept { fabric = fabric }) (Xnext own.pair own.from own.queue dev) result
+    HasClusterStepped {E = E} old (record kept { fabric = fabric }) (Xnext own.pair own.from own.queue dev) result
 unstepped {D = D} {E = E} kept old fabric own dev next error given result seen is first stepped =
     let step : Step = Xnext own.pair own.from own.queue dev in
     let new : ClusterState = record kept { fabric = fabric } in
     let own_first : sends_next own (Some next) ≡ sending_in kept own = subst (λ (cluster : ClusterState). sends_next own (Some next) ≡ sending_in cluster own) (sym seen) first in
-    subst (λ (result : Result Answer E). HasStepped {E = E} old new step result) (sym is)
-    (subst (λ (old : ClusterState). HasStepped {E = E} old new step (Err given)) seen
+    subst (λ (result : Result Answer E). HasClusterStepped {E = E} old new step result) (sym is)
+    (subst (λ (old : ClusterState). HasClusterStepped {E = E} old new step (Err given)) seen
     (has_stepped {E = E} kept new step (Err given) (goes_unstepped {D = D} {E = E} kept fabric own dev next error given own_first stepped) (plan_after kept fabric stepped.plan)))
 
 -- An xnext without memory for the frame that waits meets a cluster's contract if nothing changes.
 pub unsent : {E : Type 0} (old : ClusterState) (own : LaneName) (dev : ℕ) (given : E) (result : Result Answer E) → result ≡ Err given → does_send (sending_in old own) ≡ true →
-    HasStepped {E = E} old old (Xnext own.pair own.from own.queue dev) result
+    HasClusterStepped {E = E} old old (Xnext own.pair own.from own.queue dev) result
 unsent {E = E} old own dev given result is sends =
-    subst (λ (result : Result Answer E). HasStepped {E = E} old old (Xnext own.pair own.from own.queue dev) result) (sym is)
+    subst (λ (result : Result Answer E). HasClusterStepped {E = E} old old (Xnext own.pair own.from own.queue dev) result) (sym is)
     (has_stepped old old (Xnext own.pair own.from own.queue dev) (Err given) (goes_unsent old own dev given sends) refl)
 
 -- the frame that was due is that of the answer
@@ -481,37 +481,37 @@ told_frame old own (Ok answer) told = ap delivered_by (sym told)
 
 copied_so : {E : Type 0} (old : ClusterState) (fabric : FabricState) (own : LaneName) (due : Option (List ℕ)) (answer : Answer) →
     HasSteppedOnBridges {E = E} old.fabric fabric (Copy own.pair own.from own.queue) (Ok answer) → due ≡ delivered_by answer →
-    HasStepped {E = E} old (record (brought_in old own due) { fabric = fabric }) (Copy own.pair own.from own.queue) (Ok answer)
+    HasClusterStepped {E = E} old (record (brought_in old own due) { fabric = fabric }) (Copy own.pair own.from own.queue) (Ok answer)
 copied_so {E = E} old fabric own due answer stepped told =
     let step : Step = Copy own.pair own.from own.queue in
     let brought = λ (due : Option (List ℕ)). record (brought_in old own due) { fabric = fabric } in
-    subst (λ (due : Option (List ℕ)). HasStepped {E = E} old (brought due) step (Ok answer)) (sym told)
+    subst (λ (due : Option (List ℕ)). HasClusterStepped {E = E} old (brought due) step (Ok answer)) (sym told)
     (has_stepped old (brought (delivered_by answer)) step (Ok answer) (goes_copied old fabric own answer stepped) (brought_plan old fabric own (delivered_by answer) ∙ plan_after old fabric stepped.plan))
 
 copied_due : {E : Type 0} (old : ClusterState) (fabric : FabricState) (own : LaneName) (due : Option (List ℕ)) (result : Result Answer E) →
     HasSteppedOnBridges {E = E} old.fabric fabric (Copy own.pair own.from own.queue) result → IfOk result (λ answer. due ≡ delivered_by answer) →
-    HasStepped {E = E} old (record (brought_in old own due) { fabric = fabric }) (Copy own.pair own.from own.queue) result
+    HasClusterStepped {E = E} old (record (brought_in old own due) { fabric = fabric }) (Copy own.pair own.from own.queue) result
 copied_due old fabric own due (Err error) stepped told = absurd (true≢false (sym (stepped.wants refl)))
 copied_due old fabric own due (Ok answer) stepped told = copied_so old fabric own due answer stepped told
 
 -- A copy meets a cluster's contract if it meets the fabric's and the frame that was due has arrived at the port before.
 pub copied : {E : Type 0} (old mid kept : ClusterState) (fabric : FabricState) (own : LaneName) (result : Result Answer E) → kept ≡ mid → mid ≡ brought_in old own (frame_due old.fabric own) →
-    HasSteppedOnBridges {E = E} kept.fabric fabric (Copy own.pair own.from own.queue) result → HasStepped {E = E} old (record kept { fabric = fabric }) (Copy own.pair own.from own.queue) result
+    HasSteppedOnBridges {E = E} kept.fabric fabric (Copy own.pair own.from own.queue) result → HasClusterStepped {E = E} old (record kept { fabric = fabric }) (Copy own.pair own.from own.queue) result
 copied {E = E} old mid kept fabric own result seen brought stepped =
     let step : Step = Copy own.pair own.from own.queue in
     let due : Option (List ℕ) = frame_due old.fabric own in
     let same : kept.fabric ≡ old.fabric = ap (λ (cluster : ClusterState). cluster.fabric) (seen ∙ brought) ∙ brought_fabric old own due in
     let own_stepped : HasSteppedOnBridges {E = E} old.fabric fabric step result = subst (λ (before : FabricState). HasSteppedOnBridges {E = E} before fabric step result) same stepped in
-    subst (λ (cluster : ClusterState). HasStepped {E = E} old (record cluster { fabric = fabric }) step result) (sym (seen ∙ brought))
+    subst (λ (cluster : ClusterState). HasClusterStepped {E = E} old (record cluster { fabric = fabric }) step result) (sym (seen ∙ brought))
     (copied_due old fabric own due result own_stepped (told_frame old.fabric own result own_stepped.told))
 
 -- A copy without room for its frame at the port meets a cluster's contract if nothing changes.
 pub uncopied : {E : Type 0} (old new : ClusterState) (own : LaneName) (given : E) (result : Result Answer E) → new ≡ old → result ≡ Err given → IsQueueOf (plan_kept old.fabric) own.pair own.from own.queue →
-    BringsFrame old own → HasStepped {E = E} old new (Copy own.pair own.from own.queue) result
+    BringsFrame old own → HasClusterStepped {E = E} old new (Copy own.pair own.from own.queue) result
 uncopied {E = E} old new own given result same is may brings =
     let step : Step = Copy own.pair own.from own.queue in
-    subst (λ (new : ClusterState). HasStepped {E = E} old new step result) (sym same)
-    (subst (λ (result : Result Answer E). HasStepped {E = E} old old step result) (sym is) (has_stepped old old step (Err given) (goes_uncopied old own given may brings) refl))
+    subst (λ (new : ClusterState). HasClusterStepped {E = E} old new step result) (sym same)
+    (subst (λ (result : Result Answer E). HasClusterStepped {E = E} old old step result) (sym is) (has_stepped old old step (Err given) (goes_uncopied old own given may brings) refl))
 
 -- The first frame that waits
 
@@ -521,11 +521,11 @@ some_waits [] frame is = cc is
 some_waits (first ∷ frames) frame is = omega arith
 
 -- A copy of the first frame that waits at the port on a side and a queue is what the cluster is to send there.
-pub sending_is : (kept cluster : ClusterState) (own : LaneName) (place : PortPlace) (devs : List DevPlan) (plans : List SwitchPlan) (switch : Bytes) (frame copy : List ℕ) → kept ≡ cluster → devs ≡ kept.fabric.devs →
-    plans ≡ kept.plans → Some (port_seen place) ≡ port_from devs own 0 plans → switch ≡ switch_of kept.switches (port_seen place) → Some frame ≡ first switch place.port → copy ≡ frame →
-    Sends (port_seen place) own copy ≡ sending_in cluster own
+pub sending_is : (kept cluster : ClusterState) (own : LaneName) (place : PortPlace) (devs : List DevPlan) (plans : List SwitchPlan) (switch : SwitchBytes) (frame copy : List ℕ) → kept ≡ cluster → devs ≡ kept.fabric.devs →
+    plans ≡ kept.plans → Some (cluster_port_seen place) ≡ port_from devs own 0 plans → switch ≡ switch_of kept.switches (cluster_port_seen place) → Some frame ≡ first switch place.port → copy ≡ frame →
+    Sends (cluster_port_seen place) own copy ≡ sending_in cluster own
 sending_is kept cluster own place devs plans switch frame copy seen same_devs same_plans port found is same =
-    ap (λ (waiting : Option (List ℕ)). sends_first (port_seen place) own waiting) (ap Some same ∙ is ∙ ap (λ (switch : Bytes). first switch place.port) found)
+    ap (λ (waiting : Option (List ℕ)). sends_first (cluster_port_seen place) own waiting) (ap Some same ∙ is ∙ ap (λ (switch : SwitchBytes). first switch place.port) found)
     ∙ ap (sends_from kept.switches own)
     (port ∙ ap (λ (devs : List DevPlan). port_from devs own 0 plans) same_devs ∙ ap (λ (plans : List SwitchPlan). port_from kept.fabric.devs own 0 plans) same_plans)
     ∙ ap (λ (cluster : ClusterState). sending_in cluster own) seen
@@ -571,15 +571,15 @@ module _ (P : Step → Type 0) where
 
 -- A step that relays from a port meets its contract if all relays from that port do, whatever queue they name.
 pub by_relay : {E : Type 0} (old new : ClusterState) (step : Step) (switch port : ℕ) (result : Result Answer E) → part_of step ≡ Relays switch port →
-    ((pair : ℕ) (side : Side) (queue : ℕ) → HasStepped old new (Relay pair side queue switch port) result) → HasStepped old new step result
-by_relay old new step switch port result e all = so_of_relay (λ (step : Step). HasStepped old new step result) step switch port e all
+    ((pair : ℕ) (side : Side) (queue : ℕ) → HasClusterStepped old new (Relay pair side queue switch port) result) → HasClusterStepped old new step result
+by_relay old new step switch port result e all = so_of_relay (λ (step : Step). HasClusterStepped old new step result) step switch port e all
 
 -- A step that sends on a side and a queue meets its contract if an xnext there does, whatever device it names.
 pub by_sending : {E : Type 0} (old new : ClusterState) (step : Step) (own : LaneName) (result : Result Answer E) → part_of step ≡ SendsNext own →
-    ((dev : ℕ) → HasStepped old new (Xnext own.pair own.from own.queue dev) result) → HasStepped old new step result
-by_sending old new step own result e all = so_of_sending (λ (step : Step). HasStepped old new step result) step own e all
+    ((dev : ℕ) → HasClusterStepped old new (Xnext own.pair own.from own.queue dev) result) → HasClusterStepped old new step result
+by_sending old new step own result e all = so_of_sending (λ (step : Step). HasClusterStepped old new step result) step own e all
 
 -- A step that copies on a side and a queue meets its contract if the copy there does.
 pub by_copying : {E : Type 0} (old new : ClusterState) (step : Step) (own : LaneName) (result : Result Answer E) → part_of step ≡ Copies own →
-    HasStepped old new (Copy own.pair own.from own.queue) result → HasStepped old new step result
-by_copying old new step own result e stepped = so_of_copying (λ (step : Step). HasStepped old new step result) step own e stepped
+    HasClusterStepped old new (Copy own.pair own.from own.queue) result → HasClusterStepped old new step result
+by_copying old new step own result e stepped = so_of_copying (λ (step : Step). HasClusterStepped old new step result) step own e stepped

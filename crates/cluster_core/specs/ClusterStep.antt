@@ -8,30 +8,30 @@ use Rattle.step_kinds.specs.declared.steps.Label.{Label}
 use Rattle.step_kinds.specs.declared.steps.Step.{Step}
 use Rattle.step_kinds.specs.declared.steps.Step.TheVariants.{Land}
 use Rattle.step_kinds.specs.Answers.{is_made}
-use Rattle.cluster_core.specs.Cluster.{ClusterState, plain, plan_held}
-use Rattle.cluster_core.specs.LogClauses.{HasMade, IsAnswered}
-use Rattle.cluster_core.specs.Refusals.{refused_in}
-use Rattle.cluster_core.specs.Wants.{IsWantedAfter, may_want_memory, sends_waiting}
+use Rattle.cluster_core.specs.Cluster.{ClusterState, plain_cluster, plan_held}
+use Rattle.cluster_core.specs.LogClauses.{HasClusterMade, IsClusterAnswered}
+use Rattle.cluster_core.specs.Refusals.{cluster_refused_in}
+use Rattle.cluster_core.specs.Wants.{IsClusterWantedAfter, cluster_may_want_memory, sends_waiting}
 
 -- whatever steps of a plan it had made before
-pub record HasStepped {E : Type 0} (old new : ClusterState) (step : Step) (result : Result Answer E) : Type 0 where
+pub record HasClusterStepped {E : Type 0} (old new : ClusterState) (step : Step) (result : Result Answer E) : Type 0 where
   -- the answer is the log's of those steps and this one
-  pub answered : (plan : Plan) (steps : List Step) → HasMade plan steps old → IfOk result (λ answer. IsAnswered plan steps step answer)
+  pub answered : (plan : Plan) (steps : List Step) → HasClusterMade plan steps old → IfOk result (λ answer. IsClusterAnswered plan steps step answer)
   -- then it has made them and this one
-  pub made : (plan : Plan) (steps : List Step) → HasMade plan steps old → OnOk result (HasMade plan (steps ++ step ∷ []) new)
+  pub made : (plan : Plan) (steps : List Step) → HasClusterMade plan steps old → OnOk result (HasClusterMade plan (steps ++ step ∷ []) new)
   -- a step that is refused leaves all as it was, promises aside, but for a device's count of refusals and what an idle
   -- port lets go
-  pub refused : IfOk result (λ answer. is_made answer ≡ false → plain new ≡ plain (refused_in old step))
+  pub refused : IfOk result (λ answer. is_made answer ≡ false → plain_cluster new ≡ plain_cluster (cluster_refused_in old step))
   -- where it is out of memory it has made the same steps, and nothing but promises of room and pages changed
-  pub still_made : (plan : Plan) (steps : List Step) → HasMade plan steps old → OnErr result (HasMade plan steps new)
-  pub err : OnErr result (plain new ≡ plain old)
+  pub still_made : (plan : Plan) (steps : List Step) → HasClusterMade plan steps old → OnErr result (HasClusterMade plan steps new)
+  pub err : OnErr result (plain_cluster new ≡ plain_cluster old)
   -- of the steps that may want memory alone
-  pub wants : IsErr result → may_want_memory old step ≡ true
+  pub wants : IsErr result → cluster_may_want_memory old step ≡ true
   -- and, but for an xnext, only if the log of those steps answers it with no refusal, or where a device has as many
   -- refusals as it can count
-  pub border : (plan : Plan) (steps : List Step) → HasMade plan steps old → sends_waiting step ≡ false → OnErr result (IsWantedAfter plan steps old step)
+  pub border : (plan : Plan) (steps : List Step) → HasClusterMade plan steps old → sends_waiting step ≡ false → OnErr result (IsClusterWantedAfter plan steps old step)
   -- after a landing that lands nothing it has made the same steps too
-  pub rests : (plan : Plan) (steps : List Step) → HasMade plan steps old → (pair : ℕ) (side : Side) (place : ℕ) → step ≡ Land pair side place →
-      IfOk result (λ answer. ((label : Label) → answer ≢ Landed label) → HasMade plan steps new)
+  pub rests : (plan : Plan) (steps : List Step) → HasClusterMade plan steps old → (pair : ℕ) (side : Side) (place : ℕ) → step ≡ Land pair side place →
+      IfOk result (λ answer. ((label : Label) → answer ≢ Landed label) → HasClusterMade plan steps new)
   -- its pairs, devices and switches stay
   pub plan : plan_held new ≡ plan_held old

@@ -4,7 +4,7 @@ use Rattle.step_kinds.specs.declared.plan.SwitchPlan.{SwitchPlan}
 use Rattle.pair_model.specs.DeclaredPlans.{IsDeclared}
 use Rattle.pair_model.specs.Switches.{AreSwitches}
 use Rattle.fabric_core.specs.Fabric.{plan_kept}
-use Rattle.learn_switch.specs.Frames.{Bytes}
+use Rattle.learn_switch.specs.Frames.{SwitchBytes}
 use Rattle.cluster_core.specs.Cluster.{ClusterState, plan_held}
 use Rattle.cluster_core.specs.declared.cluster.Cluster.TheInside.{Inside}
 
@@ -12,11 +12,11 @@ abbrev pub cluster_seen : Inside → ClusterState
 cluster_seen kept = record { fabric = kept.fabric; plans = kept.plans.items; switches = kept.switches.items }
 
 -- a switch has as many ports as are declared
-pub record HasPorts (plan : SwitchPlan) (switch : Bytes) : Type 0 where
+pub record HasPorts (plan : SwitchPlan) (switch : SwitchBytes) : Type 0 where
   pub inboxes : length switch.inboxes ≡ length plan.ports
   pub waiting : length switch.waiting ≡ length plan.ports
 
-abbrev pub HavePorts : List SwitchPlan → List Bytes → Type 0
+abbrev pub HavePorts : List SwitchPlan → List SwitchBytes → Type 0
 HavePorts [] [] = Unit {0}
 HavePorts [] (switch ∷ switches) = ⊥
 HavePorts (plan ∷ plans) [] = ⊥

@@ -16,7 +16,7 @@ use Rattle.pair_model.specs.Plans.{pair_plan}
 use Rattle.ledger_model.specs.Log.{Answered}
 use Rattle.ledger_model.specs.PlanLog.{device_counts, lane_counts}
 use Rattle.cluster_core.specs.Cluster.{ClusterState}
-use Rattle.cluster_core.specs.LogClauses.{HasMade, log_after}
+use Rattle.cluster_core.specs.LogClauses.{HasClusterMade, cluster_log_after}
 use Rattle.cluster_core.specs.PlanSteps.{HasReplayed}
 
 -- whether a count is of a frame at least
@@ -29,10 +29,10 @@ filled counts = filter counts_some counts
 -- of whatever plan and lines the cluster has made, these are the counts of its lanes, and those of its devices
 
 abbrev pub AreLaneCounts : ClusterState → List LaneCount → Type 0
-AreLaneCounts cluster counts = (plan : Plan) (lines : List Line) → HasReplayed plan lines cluster → counts ≡ filled (lane_counts plan (log_after plan (steps_in lines)))
+AreLaneCounts cluster counts = (plan : Plan) (lines : List Line) → HasReplayed plan lines cluster → counts ≡ filled (lane_counts plan (cluster_log_after plan (steps_in lines)))
 
 abbrev pub AreDeviceCounts : ClusterState → List Counters → Type 0
-AreDeviceCounts cluster counts = (plan : Plan) (lines : List Line) → HasReplayed plan lines cluster → counts ≡ device_counts plan (log_after plan (steps_in lines))
+AreDeviceCounts cluster counts = (plan : Plan) (lines : List Line) → HasReplayed plan lines cluster → counts ≡ device_counts plan (cluster_log_after plan (steps_in lines))
 
 -- How they are gathered
 
@@ -53,4 +53,4 @@ lanes_from pair from queues = map (λ queue. record { pair = pair; from = from; 
 
 -- The counts that were added are those of these that count a frame, whatever steps the cluster has made.
 abbrev pub AddsCounts : ClusterState → List LaneCount → List LaneCount → (Plan → List Answered → List LaneCount) → Type 0
-AddsCounts cluster old new counted = (plan : Plan) (steps : List Step) → HasMade plan steps cluster → new ≡ old ++ filled (counted plan (log_after plan steps))
+AddsCounts cluster old new counted = (plan : Plan) (steps : List Step) → HasClusterMade plan steps cluster → new ≡ old ++ filled (counted plan (cluster_log_after plan steps))

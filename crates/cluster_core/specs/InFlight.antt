@@ -9,17 +9,17 @@ use Rattle.fabric_core.specs.InFlight.{fabric_key, fabric_key_without}
 use Rattle.cluster_core.specs.Cluster.{ClusterState}
 use Rattle.ledger_model.specs.Memory.{memory_of}
 use Rattle.ledger_model.specs.NetworkLog.{answer_after}
-use Rattle.cluster_core.specs.LogClauses.{HasMade}
+use Rattle.cluster_core.specs.LogClauses.{HasClusterMade}
 
 -- whatever steps a cluster has made, a landing of that side at this place or a later one is answered `nothing` after
 -- them
-abbrev pub LandsNoneFrom : ClusterState → ℕ → Side → ℕ → Type 0
-LandsNoneFrom cluster pair side count =
-    (plan : Plan) (steps : List Step) → HasMade plan steps cluster → (place : ℕ) → count ≤ place → answer_after plan (memory_of plan) steps (Land pair side place) ≡ Nothing
+abbrev pub ClusterLandsNoneFrom : ClusterState → ℕ → Side → ℕ → Type 0
+ClusterLandsNoneFrom cluster pair side count =
+    (plan : Plan) (steps : List Step) → HasClusterMade plan steps cluster → (place : ℕ) → count ≤ place → answer_after plan (memory_of plan) steps (Land pair side place) ≡ Nothing
 
 -- of the labels in flight, by their kinds and low bytes of their numbers
-abbrev pub key_of : ClusterState → List ℕ
-key_of cluster = fabric_key cluster.fabric
+abbrev pub cluster_key_of : ClusterState → List ℕ
+cluster_key_of cluster = fabric_key cluster.fabric
 
 -- the key without a write: that of the cluster once the write has landed
 abbrev pub key_without : ClusterState → ℕ → Side → ℕ → List ℕ

@@ -15,8 +15,8 @@ use Rattle.cluster_core.specs.Cluster.{ClusterState}
 
 -- the log of steps and the network after them, whose memories show what was stored
 
-abbrev pub log_after : Plan → List Step → List Answered
-log_after plan steps = switch_log plan (memory_of plan) steps
+abbrev pub cluster_log_after : Plan → List Step → List Answered
+cluster_log_after plan steps = switch_log plan (memory_of plan) steps
 
 abbrev pub network_after : Plan → List Step → Network (List ℕ)
 network_after plan steps = network_of plan (memory_of plan) steps
@@ -29,26 +29,26 @@ pub record IsNetwork (plan : Plan) (net : Network (List ℕ)) (cluster : Cluster
   pub switches : cluster.switches ≡ net.switches
 
 -- the cluster has made these steps of the plan
-abbrev pub HasMade : Plan → List Step → ClusterState → Type 0
-HasMade plan steps cluster = IsNetwork plan (network_after plan steps) cluster
+abbrev pub HasClusterMade : Plan → List Step → ClusterState → Type 0
+HasClusterMade plan steps cluster = IsNetwork plan (network_after plan steps) cluster
 
 -- after these steps the step is answered as the log with it says, in which it may stand as another one
-pub record IsAnswered (plan : Plan) (steps : List Step) (step : Step) (answer : Answer) : Type 0 where
+pub record IsClusterAnswered (plan : Plan) (steps : List Step) (step : Step) (answer : Answer) : Type 0 where
   pub stands_as : Step
-  pub goes_on : log_after plan (steps ++ step ∷ []) ≡ log_after plan steps ++ record { step = stands_as; answer = answer } ∷ []
+  pub goes_on : cluster_log_after plan (steps ++ step ∷ []) ≡ cluster_log_after plan steps ++ record { step = stands_as; answer = answer } ∷ []
 
 -- whatever steps a cluster has made, these are the frames of a lane in a session that their log has
 
-abbrev pub IsAccepted : ClusterState → LaneName → ℕ → ℕ → Type 0
-IsAccepted cluster lane session count = (plan : Plan) (steps : List Step) → HasMade plan steps cluster → count ≡ length (accepted plan (log_after plan steps) lane session)
+abbrev pub IsClusterAccepted : ClusterState → LaneName → ℕ → ℕ → Type 0
+IsClusterAccepted cluster lane session count = (plan : Plan) (steps : List Step) → HasClusterMade plan steps cluster → count ≡ length (accepted plan (cluster_log_after plan steps) lane session)
 
-abbrev pub IsDelivered : ClusterState → LaneName → ℕ → ℕ → Type 0
-IsDelivered cluster lane session count = (plan : Plan) (steps : List Step) → HasMade plan steps cluster → count ≡ length (delivered plan (log_after plan steps) lane session)
+abbrev pub IsClusterDelivered : ClusterState → LaneName → ℕ → ℕ → Type 0
+IsClusterDelivered cluster lane session count = (plan : Plan) (steps : List Step) → HasClusterMade plan steps cluster → count ≡ length (delivered plan (cluster_log_after plan steps) lane session)
 
 -- the session of a pair, and the counters of a device
 
-abbrev pub IsSession : ClusterState → ℕ → ℕ → Type 0
-IsSession cluster pair session = (plan : Plan) (steps : List Step) → HasMade plan steps cluster → session ≡ first_session plan pair + count_by (trains pair) (log_after plan steps)
+abbrev pub IsClusterSession : ClusterState → ℕ → ℕ → Type 0
+IsClusterSession cluster pair session = (plan : Plan) (steps : List Step) → HasClusterMade plan steps cluster → session ≡ first_session plan pair + count_by (trains pair) (cluster_log_after plan steps)
 
-abbrev pub AreCounters : ClusterState → ℕ → Counters → Type 0
-AreCounters cluster dev counters = (plan : Plan) (steps : List Step) → HasMade plan steps cluster → counters ≡ counters_in plan (log_after plan steps) (lane_of_device (dev_plan plan.devs dev))
+abbrev pub AreClusterCounters : ClusterState → ℕ → Counters → Type 0
+AreClusterCounters cluster dev counters = (plan : Plan) (steps : List Step) → HasClusterMade plan steps cluster → counters ≡ counters_in plan (cluster_log_after plan steps) (lane_of_device (dev_plan plan.devs dev))

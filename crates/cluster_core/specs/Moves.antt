@@ -9,7 +9,7 @@ use Rattle.ledger_model.specs.Network.{Action, Rests, Sends, answer_of, arrived_
 use Rattle.ledger_model.specs.Ports.{Port, port_from, switch_of, with_switch}
 use Rattle.learn_switch.specs.Frames.{bytes_after_relay, bytes_relay_answer, goes_on}
 use Rattle.cluster_core.specs.Cluster.{ClusterState}
-use Rattle.cluster_core.specs.Parts.{IsPortAmong, port_seen}
+use Rattle.cluster_core.specs.Parts.{IsPortAmong, cluster_port_seen}
 use Rattle.cluster_core.specs.declared.cluster.NextFrame.{NextFrame}
 use Rattle.cluster_core.specs.declared.ports.PortPlace.{PortPlace}
 
@@ -50,7 +50,7 @@ sending_in cluster own = sends_from cluster.switches own (port_in cluster own)
 
 abbrev pub sends_next : LaneName → Option NextFrame → Action (List ℕ)
 sends_next own None = Rests
-sends_next own (Some next) = Sends (port_seen next.place) own next.frame
+sends_next own (Some next) = Sends (cluster_port_seen next.place) own next.frame
 
 abbrev pub does_send : Action (List ℕ) → Bool
 does_send (Sends port lane frame) = true
@@ -58,7 +58,7 @@ does_send action = false
 
 -- a frame waits at a port
 abbrev pub HasWaiting : ClusterState → PortPlace → Type 0
-HasWaiting cluster place = 0 < length (list_of (switch_of cluster.switches (port_seen place)).waiting place.port)
+HasWaiting cluster place = 0 < length (list_of (switch_of cluster.switches (cluster_port_seen place)).waiting place.port)
 
 -- a frame may be begun, and at its port, which is one of the cluster's, a frame waits
 pub record CanBeSent (cluster : ClusterState) (next : NextFrame) : Type 0 where
@@ -67,5 +67,5 @@ pub record CanBeSent (cluster : ClusterState) (next : NextFrame) : Type 0 where
   pub waits : HasWaiting cluster next.place
 
 -- `ok` takes the first waiting frame of a port out
-abbrev pub taken_in : ClusterState → PortPlace → Answer → ClusterState
-taken_in cluster place answer = record cluster { switches = switches_sent cluster.switches (port_seen place) answer }
+abbrev pub cluster_taken_in : ClusterState → PortPlace → Answer → ClusterState
+cluster_taken_in cluster place answer = record cluster { switches = switches_sent cluster.switches (cluster_port_seen place) answer }

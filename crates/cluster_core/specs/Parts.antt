@@ -24,8 +24,8 @@ part_of step = OnBridges
 
 -- Ports
 
-abbrev pub port_seen : PortPlace → Port
-port_seen own = record { switch = own.switch; place = own.port }
+abbrev pub cluster_port_seen : PortPlace → Port
+cluster_port_seen own = record { switch = own.switch; place = own.port }
 
 -- whether the device of a number is on a side and a queue
 abbrev pub is_device_on : List DevPlan → LaneName → ℕ → Bool

@@ -8,11 +8,11 @@ use Rattle.pair_model.specs.PlanParts.{declared_part, steps_in}
 use Rattle.ledger_model.specs.Log.{Answered}
 use Rattle.ledger_model.specs.PlanLog.{answered_steps}
 use Rattle.cluster_core.specs.Cluster.{ClusterState, plan_held}
-use Rattle.cluster_core.specs.LogClauses.{HasMade, log_after}
+use Rattle.cluster_core.specs.LogClauses.{HasClusterMade, cluster_log_after}
 
 -- the cluster has made the steps of these lines of a plan, and keeps what the plan declares
 pub record HasReplayed (plan : Plan) (lines : List Line) (cluster : ClusterState) : Type 0 where
-  pub made : HasMade plan (steps_in lines) cluster
+  pub made : HasClusterMade plan (steps_in lines) cluster
   pub kept : plan_held cluster ≡ declared_part plan
 
 -- The cluster has made these lines after those before, and what is kept of their answers was added in turn to what was
@@ -20,5 +20,5 @@ pub record HasReplayed (plan : Plan) (lines : List Line) (cluster : ClusterState
 pub record HasKept {K : Type 0} (with_answer : K → AnsweredStep → K) (plan : Plan) (before lines : List Line) (cluster : ClusterState) (old new : K) : Type 0 where
   pub replayed : HasReplayed plan (before ++ lines) cluster
   pub answers : List Answered
-  pub log : log_after plan (steps_in (before ++ lines)) ≡ log_after plan (steps_in before) ++ answers
+  pub log : cluster_log_after plan (steps_in (before ++ lines)) ≡ cluster_log_after plan (steps_in before) ++ answers
   pub kept : new ≡ fold with_answer old (answered_steps lines answers)

@@ -7,22 +7,22 @@ use Rattle.step_kinds.specs.declared.steps.Step.TheVariants.{Relay, Xbegin, Xnex
 use Rattle.step_kinds.specs.Answers.{is_made}
 use Rattle.fabric_core.specs.Refusals.{refused_in as refused_on_bridges}
 use Rattle.cluster_core.specs.Cluster.{ClusterState}
-use Rattle.cluster_core.specs.LogClauses.{HasMade, IsAnswered}
+use Rattle.cluster_core.specs.LogClauses.{HasClusterMade, IsClusterAnswered}
 
 -- the cluster after a step that was refused: the same, but for what a fabric changes then
-abbrev pub refused_in : ClusterState → Step → ClusterState
-refused_in cluster step = record cluster { fabric = refused_on_bridges cluster.fabric step }
+abbrev pub cluster_refused_in : ClusterState → Step → ClusterState
+cluster_refused_in cluster step = record cluster { fabric = refused_on_bridges cluster.fabric step }
 
 -- a device counts the refusals of its frames, so these change something, and a switch makes its steps by itself
-abbrev pub is_plain : Step → Bool
-is_plain (Xbegin pair side queue dev dst kind payload) = false
-is_plain (Relay pair side queue switch port) = false
-is_plain (Xnext pair side queue dev) = false
-is_plain step = true
+abbrev pub is_plain_step : Step → Bool
+is_plain_step (Xbegin pair side queue dev dst kind payload) = false
+is_plain_step (Relay pair side queue switch port) = false
+is_plain_step (Xnext pair side queue dev) = false
+is_plain_step step = true
 
 -- Any other step that was refused is answered the same where it is made again at once. A cluster that has made the
 -- steps, it the last of them, has made it once more as it is.
-abbrev pub RefusedAgain : Type 0
-RefusedAgain = (plan : Plan) (steps : List Step) (step : Step) (answer : Answer) (cluster : ClusterState) →
-    IsAnswered plan steps step answer → is_made answer ≡ false → is_plain step ≡ true → HasMade plan (steps ++ step ∷ []) cluster →
-    IsAnswered plan (steps ++ step ∷ []) step answer × HasMade plan ((steps ++ step ∷ []) ++ step ∷ []) cluster
+abbrev pub ClusterRefusedAgain : Type 0
+ClusterRefusedAgain = (plan : Plan) (steps : List Step) (step : Step) (answer : Answer) (cluster : ClusterState) →
+    IsClusterAnswered plan steps step answer → is_made answer ≡ false → is_plain_step step ≡ true → HasClusterMade plan (steps ++ step ∷ []) cluster →
+    IsClusterAnswered plan (steps ++ step ∷ []) step answer × HasClusterMade plan ((steps ++ step ∷ []) ++ step ∷ []) cluster

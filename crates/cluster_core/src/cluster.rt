@@ -15,13 +15,13 @@ ghost use Rattle.bridge_pair.specs.Bridge.{flight_of};
 ghost use Rattle.fabric_core.specs.Fabric.{pair_of};
 ghost use Rattle.fabric_core.specs.FrameDue.{frame_due};
 ghost use Rattle.cluster_core.specs.Cluster.{plan_held};
-ghost use Rattle.cluster_core.specs.ClusterStep.{HasStepped};
-ghost use Rattle.cluster_core.specs.InFlight.{LandsNoneFrom, key_of, key_without};
+ghost use Rattle.cluster_core.specs.ClusterStep.{HasClusterStepped};
+ghost use Rattle.cluster_core.specs.InFlight.{ClusterLandsNoneFrom, cluster_key_of, key_without};
 ghost use Rattle.ledger_model.specs.Memory.{memory_of};
 ghost use Rattle.ledger_model.specs.NetworkLog.{answer_after};
-ghost use Rattle.cluster_core.specs.LogClauses.{AreCounters, HasMade, IsAccepted, IsDelivered, IsSession};
-ghost use Rattle.cluster_core.specs.Moves.{BringsFrame, CanBeSent, HasWaiting, arrived_in, brought_in, does_send, relay_answer_in, relay_goes_on, relayed_in, sending_in, sends_next, taken_in};
-ghost use Rattle.cluster_core.specs.Parts.{HasDeviceOn, IsPortAmong, port_seen};
+ghost use Rattle.cluster_core.specs.LogClauses.{AreClusterCounters, HasClusterMade, IsClusterAccepted, IsClusterDelivered, IsClusterSession};
+ghost use Rattle.cluster_core.specs.Moves.{BringsFrame, CanBeSent, HasWaiting, arrived_in, brought_in, does_send, relay_answer_in, relay_goes_on, relayed_in, sending_in, sends_next, cluster_taken_in};
+ghost use Rattle.cluster_core.specs.Parts.{HasDeviceOn, IsPortAmong, cluster_port_seen};
 
 use crate::parts::{StepPart, part_of};
 use crate::plans::{copies, new_switches};
@@ -53,7 +53,7 @@ impl Cluster {
     pub fn new(alloc: Global, plan: &Plan) -> Result<Cluster, AllocError>
         requires declared { IsDeclared plan.now }
         requires switches { AreSwitches plan.now }
-        ensures made { IfOk result (λ cluster. (other : PlanValue) → declared_part other ≡ declared_part plan.now → HasMade other [] cluster) }
+        ensures made { IfOk result (λ cluster. (other : PlanValue) → declared_part other ≡ declared_part plan.now → HasClusterMade other [] cluster) }
         ensures plan { IfOk result (λ cluster. plan_held cluster ≡ declared_part plan.now) }
     {
         Ok(Cluster {
@@ -88,7 +88,7 @@ impl Cluster {
     #[inline(always)]
     pub fn step(&mut self, step: &Step) -> Result<Answer, AllocError>
         requires { IsMakeable (plan_held self.old) step.now }
-        ensures { HasStepped self.old self.new step.now result }
+        ensures { HasClusterStepped self.old self.new step.now result }
     {
         match part_of(step) {
             StepPart::Relays { switch, port } => self.relay(switch, port),
@@ -113,7 +113,7 @@ impl Cluster {
     // The first frame that waits at the port on a side and a queue is begun there, and taken out where it was accepted.
     fn send_next(&mut self, own: LaneName) -> Result<Answer, AllocError>
         requires { HasDeviceOn (plan_held self.old) own }
-        ensures { (dev : ℕ) → HasStepped self.old self.new (Xnext own.pair own.from own.queue dev) result }
+        ensures { (dev : ℕ) → HasClusterStepped self.old self.new (Xnext own.pair own.from own.queue dev) result }
     {
         match self.next_frame(own)? {
             None => Ok(Answer::Nothing),
@@ -126,7 +126,7 @@ impl Cluster {
         requires device { HasDeviceOn (plan_held self.old) own }
         requires fits { CanBeSent self.old next }
         requires first { sends_next own (Some next) ≡ sending_in self.old own }
-        ensures { (dev : ℕ) → HasStepped self.old self.new (Xnext own.pair own.from own.queue dev) result }
+        ensures { (dev : ℕ) → HasClusterStepped self.old self.new (Xnext own.pair own.from own.queue dev) result }
     {
         let place = next.place;
         let step = Step::Begin {
@@ -144,7 +144,7 @@ impl Cluster {
     fn take_out(&mut self, place: PortPlace, answer: &Answer)
         requires place { IsPortAmong self.old.plans place.switch place.port }
         requires waits { HasWaiting self.old place }
-        ensures { self.new ≡ taken_in self.old place answer.now }
+        ensures { self.new ≡ cluster_taken_in self.old place answer.now }
     {
         if let Answer::OkNumber { .. } = answer {
             self.switches[place.switch as usize].sent(place.port);
@@ -174,7 +174,7 @@ impl Cluster {
     // port there before, so that nothing is left to be done after the copy.
     fn copy(&mut self, own: LaneName) -> Result<Answer, AllocError>
         requires { IsQueueOf (plan_held self.old) own.pair own.from own.queue }
-        ensures { HasStepped self.old self.new (Copy own.pair own.from own.queue) result }
+        ensures { HasClusterStepped self.old self.new (Copy own.pair own.from own.queue) result }
     {
         let step = Step::Copy {
             pair: own.pair,
@@ -205,7 +205,7 @@ impl Cluster {
     // A frame arrives at a port.
     fn arrive(&mut self, place: PortPlace, frame: Frame) -> Result<(), AllocError>
         requires { IsPortAmong self.old.plans place.switch place.port }
-        ensures ok { OnOk result (self.new ≡ arrived_in self.old (port_seen place) frame) }
+        ensures ok { OnOk result (self.new ≡ arrived_in self.old (cluster_port_seen place) frame) }
         ensures err { OnErr result (self.new ≡ self.old) }
     {
         self.switches[place.switch as usize].arrive(place.port, frame)
@@ -216,8 +216,8 @@ impl Cluster {
     pub fn ledger(&self, lane: LaneName, session: u32) -> (u64, u64)
         requires sent { IsQueueOf (plan_held self.now) lane.pair lane.from lane.queue }
         requires received { IsQueueOf (plan_held self.now) lane.pair (other_side lane.from) lane.queue }
-        ensures accepted { IsAccepted self.now lane session result.0 }
-        ensures delivered { IsDelivered self.now lane session result.1 }
+        ensures accepted { IsClusterAccepted self.now lane session result.0 }
+        ensures delivered { IsClusterDelivered self.now lane session result.1 }
     {
         self.fabric.ledger(lane, session)
     }
@@ -226,7 +226,7 @@ impl Cluster {
     /// cluster's.
     pub fn sessions(&self, pair: u32) -> u32
         requires { IsPairOf (plan_held self.now) pair }
-        ensures { IsSession self.now pair result }
+        ensures { IsClusterSession self.now pair result }
     {
         self.fabric.sessions(pair)
     }
@@ -234,7 +234,7 @@ impl Cluster {
     /// Returns what is counted of a device, which has to be one of the cluster's. What an `xnext` sends isn't.
     pub fn counters(&self, dev: u32) -> Counters
         requires { dev < length (plan_held self.now).devs }
-        ensures { AreCounters self.now dev result }
+        ensures { AreClusterCounters self.now dev result }
     {
         self.fabric.counters(dev)
     }
@@ -248,8 +248,8 @@ impl Cluster {
     /// steps, it is `true`. It takes no memory.
     pub fn is_same(&self, other: &Cluster) -> bool
         requires { plan_held self.now ≡ plan_held other.now }
-        ensures merges { result ≡ true → (plan : PlanValue) (steps : List MadeStep) → HasMade plan steps self.now → HasMade plan steps other.now }
-        ensures apart { (plan : PlanValue) (steps : List MadeStep) → HasMade plan steps self.now → HasMade plan steps other.now → result ≡ true }
+        ensures merges { result ≡ true → (plan : PlanValue) (steps : List MadeStep) → HasClusterMade plan steps self.now → HasClusterMade plan steps other.now }
+        ensures apart { (plan : PlanValue) (steps : List MadeStep) → HasClusterMade plan steps self.now → HasClusterMade plan steps other.now → result ≡ true }
     {
         self.fabric.is_same(&other.fabric) && are_same_switches(&self.switches, &other.switches)
     }
@@ -264,8 +264,8 @@ impl Cluster {
     pub fn lands_as(&self, pair: u32, side: Side, place: usize, other: &Cluster) -> bool
         requires plans { plan_held self.now ≡ plan_held other.now }
         requires pair { IsPairOf (plan_held self.now) pair }
-        ensures merges { result ≡ true → (plan : PlanValue) (steps : List MadeStep) → HasMade plan steps self.now → HasMade plan (steps ++ Land pair side place ∷ []) other.now }
-        ensures apart { (plan : PlanValue) (steps : List MadeStep) (label : LabelValue) → HasMade plan steps self.now → answer_after plan (memory_of plan) steps (Land pair side place) ≡ Landed label → HasMade plan (steps ++ Land pair side place ∷ []) other.now → result ≡ true }
+        ensures merges { result ≡ true → (plan : PlanValue) (steps : List MadeStep) → HasClusterMade plan steps self.now → HasClusterMade plan (steps ++ Land pair side place ∷ []) other.now }
+        ensures apart { (plan : PlanValue) (steps : List MadeStep) (label : LabelValue) → HasClusterMade plan steps self.now → answer_after plan (memory_of plan) steps (Land pair side place) ≡ Landed label → HasClusterMade plan (steps ++ Land pair side place ∷ []) other.now → result ≡ true }
     {
         self.fabric.lands_as(pair, side, place, &other.fabric)
             && are_same_switches(&self.switches, &other.switches)
@@ -292,7 +292,7 @@ impl Cluster {
     pub fn in_flight(&self, pair: u32, side: Side) -> usize
         requires { IsPairOf (plan_held self.now) pair }
         ensures count { result ≡ length (flight_of (pair_of self.now.fabric pair).bridge side).writes }
-        ensures beyond { LandsNoneFrom self.now pair side result }
+        ensures beyond { ClusterLandsNoneFrom self.now pair side result }
     {
         self.fabric.in_flight(pair, side)
     }
@@ -304,7 +304,7 @@ impl Cluster {
     ///
     /// [`AllocError`] if memory runs out. A part of the key may then be there.
     pub fn push_key(&self, key: &mut Vec<u8>) -> Result<(), AllocError>
-        ensures { OnOk result (key.new.items ≡ key.old.items ++ key_of self.now) }
+        ensures { OnOk result (key.new.items ≡ key.old.items ++ cluster_key_of self.now) }
     {
         self.fabric.push_key(key)
     }

@@ -1,6 +1,6 @@
 //! The laws of the clusters that have made a list of steps, each the clause of a function with an empty body.
 
-ghost use Rattle.cluster_core.specs.Laws.{KeyOnceLanded, OneAnswer, SameKeys, SameSteps};
+ghost use Rattle.cluster_core.specs.Laws.{ClusterKeyOnceLanded, OneAnswer, SameClusterKeys, SameSteps};
 
 /// Of two clusters that have made one common list of steps of a plan, whatever other list the one has made, the other
 /// has made too. No premise.
@@ -10,13 +10,13 @@ pub fn same_steps()
 
 /// Two clusters that have made one common list of steps of a plan have the same key. No premise.
 pub fn same_keys()
-    ensures { SameKeys }
+    ensures { SameClusterKeys }
 {}
 
 /// If a landing is answered `landed`, the key without that write is the key after it. It is that of each cluster that
 /// has made the same steps and the landing after them. No premise.
 pub fn key_once_landed()
-    ensures { KeyOnceLanded }
+    ensures { ClusterKeyOnceLanded }
 {}
 
 /// The answer with which the log goes on after a list of steps is the one that it gives to the step: there is no other.

@@ -5,7 +5,7 @@ ghost use Rattle.std.specs.List.{All, position_from};
 ghost use Rattle.step_kinds.specs.Limits.{most_ports, most_switches};
 ghost use Rattle.ledger_model.specs.Log.{is_on as is_on_lane};
 ghost use Rattle.ledger_model.specs.Ports.{port_from};
-ghost use Rattle.cluster_core.specs.Parts.{HasFewPorts, IsPortAmong, is_device_on, port_seen};
+ghost use Rattle.cluster_core.specs.Parts.{HasFewPorts, IsPortAmong, is_device_on, cluster_port_seen};
 
 use step_kinds::{DevPlan, LaneName, SwitchPlan};
 
@@ -26,7 +26,7 @@ pub struct PortPlace {
 pub fn port_on(devs: &[DevPlan], plans: &[SwitchPlan], own: LaneName) -> Option<PortPlace>
     requires few { length plans.now ≤ most_switches }
     requires ports { All (HasFewPorts (length devs.now)) plans.now }
-    ensures value { option_map port_seen result ≡ port_from devs.now own 0 plans.now }
+    ensures value { option_map cluster_port_seen result ≡ port_from devs.now own 0 plans.now }
     ensures among { IfSome result (λ place. IsPortAmong plans.now place.switch place.port) }
 {
     for (switch, plan) in plans.iter().enumerate() {

@@ -8,7 +8,7 @@ use Rattle.step_kinds.specs.declared.names.Side.{Side}
 use Rattle.step_kinds.specs.declared.names.Side.TheVariants.{A, B}
 use Rattle.step_kinds.specs.declared.names.LaneName.{LaneName}
 use Rattle.cluster_run.specs.Lanes.{lanes_of, lanes_in}
-use Rattle.cluster_run.specs.ByLane.{side_place, place_of}
+use Rattle.cluster_run.specs.ByLane.{side_place, lane_place_of}
 
 -- the lane is none of these, or is the one at this place alone
 abbrev pub NoneIs : LaneName → List LaneName → Type 0
@@ -123,5 +123,5 @@ only_from pair from queue a (suc n) (suc k) few is within =
     only_in_second lane (32 * k + (side_place from + queue)) (32 * suc k + (side_place from + queue)) (lanes_of a) (flat_map lanes_of (range_with_len (a + 1) n)) (omega arith) (none_in_pair lane a (omega arith)) (only_from pair from queue (a + 1) n k few (omega arith) (omega arith))
 
 -- Among all lanes of so many pairs a lane stands at the place that its name gives, and nowhere else.
-pub only_at_place : (lane : LaneName) (pairs : ℕ) → lane.queue < 16 → lane.pair < pairs → IsOnlyAt (place_of lane) lane (lanes_in pairs)
+pub only_at_place : (lane : LaneName) (pairs : ℕ) → lane.queue < 16 → lane.pair < pairs → IsOnlyAt (lane_place_of lane) lane (lanes_in pairs)
 only_at_place lane pairs few among = only_from lane.pair lane.from lane.queue 0 pairs lane.pair few (omega arith) among

@@ -9,20 +9,20 @@ use Rattle.step_kinds.specs.declared.plan.Plan.{Plan}
 use Rattle.table_lane.specs.EndOfLane.{Shown}
 use Rattle.traffic_plan.specs.Lanes.{frames_on}
 use Rattle.cluster_run.specs.Lanes.{CanRun, lanes_of, lanes_in, has_traffic, traffic_lanes, entries_on, losses_on}
-use Rattle.cluster_run.specs.Runs.{FitsLane, IsFit, IsShown, lane_proofs}
+use Rattle.cluster_run.specs.Runs.{FitsLane, IsFit, IsRunShown, lane_proofs}
 use Rattle.cluster_run.specs.LaneKeys.{LaneKey, key_of, keys_from, ComesTo, ComeTo}
-use Rattle.cluster_run.specs.ByLane.{LaneFrames, lane_frames, frames_of, by_lane, has_frame, keys_with, keys_with_frames, AreOfTraffic}
+use Rattle.cluster_run.specs.ByLane.{LaneFrames, lane_frames, lane_frames_of, by_lane, has_frame, keys_with, keys_with_frames, AreOfTraffic}
 use Rattle.cluster_run.proofs.RunSoFar.{all_keys, names_of}
 use Rattle.cluster_run.proofs.TrafficLanes.{few_waiting}
 use Rattle.cluster_run.specs.declared.by_lane.LaneTraffic.{LaneTraffic}
 
 -- each lane of the sorted traffic has its frames
-each_of_traffic : (plan : Plan) (lanes : List LaneTraffic) (names : List LaneName) → map lane_frames lanes ≡ map (frames_of plan.traffic) names → AreOfTraffic plan lanes
+each_of_traffic : (plan : Plan) (lanes : List LaneTraffic) (names : List LaneName) → map lane_frames lanes ≡ map (lane_frames_of plan.traffic) names → AreOfTraffic plan lanes
 each_of_traffic plan [] names same = All-nil (λ (lane : LaneTraffic). lane.frames.frames ≡ frames_on lane.name plan.traffic)
 each_of_traffic plan (lane ∷ lanes) [] same = absurd (let many = ap length same in omega (arith, many))
 each_of_traffic plan (lane ∷ lanes) (name ∷ names) same =
-    let first : lane_frames lane ≡ frames_of plan.traffic name = ap (λ (all : List LaneFrames). slice_index_or all 0 (lane_frames lane)) same in
-    let rest : map lane_frames lanes ≡ map (frames_of plan.traffic) names = ap (λ (all : List LaneFrames). drop 1 all) same in
+    let first : lane_frames lane ≡ lane_frames_of plan.traffic name = ap (λ (all : List LaneFrames). slice_index_or all 0 (lane_frames lane)) same in
+    let rest : map lane_frames lanes ≡ map (lane_frames_of plan.traffic) names = ap (λ (all : List LaneFrames). drop 1 all) same in
     All-cons (λ (lane : LaneTraffic). lane.frames.frames ≡ frames_on lane.name plan.traffic) lane lanes
     (ap (λ (l : LaneFrames). l.frames) first ∙ ap (λ (l : LaneFrames). frames_on l.name plan.traffic) (sym first)) (each_of_traffic plan lanes names rest)
 
@@ -42,21 +42,21 @@ pub few_lanes : (plan : Plan) → CanRun plan → (lanes : List LaneTraffic) →
 few_lanes plan can lanes same =
     let many = ap length same in
     let shown = length-map lanes lane_frames in
-    let named = length-map (lanes_in (length plan.pairs)) (frames_of plan.traffic) in
+    let named = length-map (lanes_in (length plan.pairs)) (lane_frames_of plan.traffic) in
     let all = length-lanes_from 0 (length plan.pairs) in
     let pairs = can.few_pairs in
     omega arith
 
 -- the keys of the sorted traffic are those of the lanes with traffic
 named_more : (plan : Plan) (name : LaneName) (lanes : List LaneFrames) (names : List LaneName) (b : Bool) → ((number : ℕ) → keys_with plan number lanes ≡ keys_from plan number names)
-    → (number : ℕ) → keys_with plan number (cond b (frames_of plan.traffic name ∷ lanes) lanes) ≡ keys_from plan number (cond b (name ∷ names) names)
+    → (number : ℕ) → keys_with plan number (cond b (lane_frames_of plan.traffic name ∷ lanes) lanes) ≡ keys_from plan number (cond b (name ∷ names) names)
 named_more plan name lanes names true same number = ap (λ (rest : List LaneKey). key_of plan number name ∷ rest) (same (number + 1))
 named_more plan name lanes names false same number = same number
 
-keys_named : (plan : Plan) (names : List LaneName) (number : ℕ) → keys_with_frames plan number (map (frames_of plan.traffic) names) ≡ keys_from plan number (filter (has_traffic plan.traffic) names)
+keys_named : (plan : Plan) (names : List LaneName) (number : ℕ) → keys_with_frames plan number (map (lane_frames_of plan.traffic) names) ≡ keys_from plan number (filter (has_traffic plan.traffic) names)
 keys_named plan [] number = refl
 keys_named plan (name ∷ names) number =
-    named_more plan name (filter has_frame (map (frames_of plan.traffic) names)) (filter (has_traffic plan.traffic) names) (has_traffic plan.traffic name) (keys_named plan names) number
+    named_more plan name (filter has_frame (map (lane_frames_of plan.traffic) names)) (filter (has_traffic plan.traffic) names) (has_traffic plan.traffic name) (keys_named plan names) number
 
 -- lanes that come to the keys of these names
 fits_lane : (plan : Plan) (number : ℕ) (name : LaneName) (lane : LaneShown) (proofs : List Shown) → ComesTo (key_of plan number name) lane proofs → FitsLane plan lane
@@ -73,7 +73,7 @@ fit_all plan number (name ∷ names) [] proofs come = absurd come
 fit_all plan number (name ∷ names) (lane ∷ run) proofs come =
     All-cons (FitsLane plan) lane run (fits_lane plan number name lane come.0 come.3) (fit_all plan (number + 1) names run come.1 come.4)
 
-shown_all : (plan : Plan) (number : ℕ) (names : List LaneName) (run : List LaneShown) (proofs : List Shown) → ComeTo ComesTo (keys_from plan number names) run proofs → IsShown plan run proofs
+shown_all : (plan : Plan) (number : ℕ) (names : List LaneName) (run : List LaneShown) (proofs : List Shown) → ComeTo ComesTo (keys_from plan number names) run proofs → IsRunShown plan run proofs
 shown_all plan number [] [] proofs come = come
 shown_all plan number [] (lane ∷ run) proofs come = absurd come
 shown_all plan number (name ∷ names) [] proofs come = absurd come
@@ -105,5 +105,5 @@ record_fits plan run proofs come =
     record { lanes = names_of ComesTo (λ (lane : LaneShown). lane.name) (λ key lane proofs come. come.name) plan 0 (traffic_lanes plan) run proofs come; each = fit_all plan 0 (traffic_lanes plan) run proofs come }
 
 -- A record that comes to the keys of all the plan's lanes with traffic is shown by its proofs.
-pub record_shown : (plan : Plan) (run : List LaneShown) (proofs : List Shown) → ComeTo ComesTo (all_keys plan) run proofs → IsShown plan run proofs
+pub record_shown : (plan : Plan) (run : List LaneShown) (proofs : List Shown) → ComeTo ComesTo (all_keys plan) run proofs → IsRunShown plan run proofs
 record_shown plan run proofs come = shown_all plan 0 (traffic_lanes plan) run proofs come

@@ -22,37 +22,37 @@ abbrev pub lane_frames : LaneTraffic → LaneFrames
 lane_frames lane = record { name = lane.name; frames = lane.frames.frames }
 
 -- a lane with its frames of a traffic
-abbrev pub frames_of : List Traffic → LaneName → LaneFrames
-frames_of traffic lane = record { name = lane; frames = frames_on lane traffic }
+abbrev pub lane_frames_of : List Traffic → LaneName → LaneFrames
+lane_frames_of traffic lane = record { name = lane; frames = frames_on lane traffic }
 
 -- all lanes of so many pairs, each with its frames
 abbrev pub by_lane : List Traffic → ℕ → List LaneFrames
-by_lane traffic pairs = map (frames_of traffic) (lanes_in pairs)
+by_lane traffic pairs = map (lane_frames_of traffic) (lanes_in pairs)
 
 -- where a lane stands among all lanes
 abbrev pub side_place : Side → ℕ
 side_place A = 0
 side_place B = most_queues
 
-abbrev pub place_of : LaneName → ℕ
-place_of lane = 2 * most_queues * lane.pair + (side_place lane.from + lane.queue)
+abbrev pub lane_place_of : LaneName → ℕ
+lane_place_of lane = 2 * most_queues * lane.pair + (side_place lane.from + lane.queue)
 
 -- one frame more on a lane
-abbrev pub with_frame : LaneFrames → List ℕ → LaneFrames
-with_frame lane frame = record { name = lane.name; frames = lane.frames ++ frame ∷ [] }
+abbrev pub lane_with_frame : LaneFrames → List ℕ → LaneFrames
+lane_with_frame lane frame = record { name = lane.name; frames = lane.frames ++ frame ∷ [] }
 
 abbrev pub no_lane : LaneFrames
 no_lane = record { name = record { pair = 0; from = A; queue = 0 }; frames = [] }
 
 -- one item more of the traffic: a frame is put on its lane
 abbrev pub lanes_with : List LaneFrames → Traffic → List LaneFrames
-lanes_with lanes (Send lane frame) = slice_set lanes (place_of lane) (with_frame (slice_index_or lanes (place_of lane) no_lane) frame)
+lanes_with lanes (Send lane frame) = slice_set lanes (lane_place_of lane) (lane_with_frame (slice_index_or lanes (lane_place_of lane) no_lane) frame)
 lanes_with lanes (Break pair) = lanes
 
 -- an item is of one of so many lanes
-abbrev pub HasPlace : ℕ → Traffic → Type 0
-HasPlace lanes (Send lane frame) = place_of lane < lanes
-HasPlace lanes (Break pair) = Unit {0}
+abbrev pub HasLanePlace : ℕ → Traffic → Type 0
+HasLanePlace lanes (Send lane frame) = lane_place_of lane < lanes
+HasLanePlace lanes (Break pair) = Unit {0}
 
 -- the key of a lane with this number and these frames
 abbrev pub key_with : Plan → ℕ → LaneFrames → LaneKey

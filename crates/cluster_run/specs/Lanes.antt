@@ -9,7 +9,7 @@ use Rattle.step_kinds.specs.declared.plan.Traffic.{Traffic}
 use Rattle.pair_model.specs.DeclaredPlans.{IsPair}
 use Rattle.pair_model.specs.Plans.{pair_plan}
 use Rattle.pair_model.specs.Sizes.{sizes_of}
-use Rattle.pair_model.specs.TrafficPlans.{frames_in, bytes_in, is_break_of, IsTraffic, IsWhole}
+use Rattle.pair_model.specs.TrafficPlans.{frames_in, traffic_bytes_in, is_break_of, IsTraffic, IsWhole}
 use Rattle.traffic_plan.specs.Lanes.{frames_on}
 
 -- the pairs and the traffic are as a script can declare them, and the traffic keeps its limits
@@ -18,7 +18,7 @@ pub record CanRun (plan : Plan) : Type 0 where
   pub pairs : (k : ℕ) → k < length plan.pairs → IsPair (pair_plan plan k)
   pub traffic : All (IsTraffic plan) plan.traffic
   pub few_frames : sum (map frames_in plan.traffic) ≤ most_traffic_frames
-  pub few_bytes : sum (map bytes_in plan.traffic) ≤ most_traffic_bytes
+  pub few_bytes : sum (map traffic_bytes_in plan.traffic) ≤ most_traffic_bytes
   pub few_breaks : (pair : ℕ) → count_by (is_break_of pair) plan.traffic ≤ most_breaks
 
 -- the lanes with traffic, which are numbered from 0: a plan has fewer

@@ -41,5 +41,5 @@ lane_proofs entries (session ∷ []) = session_proof entries false session ∷ [
 lane_proofs entries (session ∷ sessions) = session_proof entries true session ∷ lane_proofs entries sessions
 
 -- these proofs show the record: there is one for each session of each lane, in order
-abbrev pub IsShown : Plan → List LaneShown → List Shown → Type 0
-IsShown plan run proofs = proofs ≡ flat_map (λ (lane : LaneShown). lane_proofs (entries_on plan lane.name) lane.sessions) run
+abbrev pub IsRunShown : Plan → List LaneShown → List Shown → Type 0
+IsRunShown plan run proofs = proofs ≡ flat_map (λ (lane : LaneShown). lane_proofs (entries_on plan lane.name) lane.sessions) run

@@ -18,7 +18,7 @@ abbrev pub follower : ℕ → SendingKey → WorkerKey
 follower number sender = record { worker = sender.worker + number; lane = sender.lane }
 
 -- the workers stand at one table, numbered in a row, and the ring and the frames are counted beside them
-pub record IsSession (s : Inside) : Type 0 where
+pub record IsRunSession (s : Inside) : Type 0 where
   pub moves_there : s.moving.key ≡ follower 1 s.sending.key
   pub receives_there : s.receiving.key ≡ follower 2 s.sending.key
   pub cuts_there : s.cutting.key ≡ follower 3 s.sending.key

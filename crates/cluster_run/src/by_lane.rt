@@ -3,7 +3,7 @@
 ghost use Rattle.std.specs.Prelude.{◌≡◌, ◌≤◌, ◌<◌, ◌*◌, ◌++◌, [], List, length, map, IfOk, OnOk};
 ghost use Rattle.std.specs.List.{range_with_len};
 ghost use Rattle.cluster_run.specs.Lanes.{CanRun};
-ghost use Rattle.cluster_run.specs.ByLane.{HasPlace, by_lane, frames_of, lane_frames, lanes_with, place_of, with_frame};
+ghost use Rattle.cluster_run.specs.ByLane.{HasLanePlace, by_lane, lane_frames_of, lane_frames, lanes_with, lane_place_of, lane_with_frame};
 
 use std::alloc::{AllocError, Global};
 use step_kinds::limits::MOST_QUEUES;
@@ -20,11 +20,11 @@ pub(crate) struct LaneTraffic {
 }
 
 impl LaneTraffic {
-    ghost use Rattle.cluster_run.specs.ByLane.{with_frame, lane_frames};
+    ghost use Rattle.cluster_run.specs.ByLane.{lane_with_frame, lane_frames};
 
     // Adds a copy of a frame after the others.
     fn add(&mut self, alloc: Global, frame: &Frame) -> Result<(), AllocError>
-        ensures { OnOk result (lane_frames self.new ≡ with_frame (lane_frames self.old) frame.now) }
+        ensures { OnOk result (lane_frames self.new ≡ lane_with_frame (lane_frames self.old) frame.now) }
     {
         let copy = frame.copy_of(alloc)?;
         self.frames.promise(1)?;
@@ -35,7 +35,7 @@ impl LaneTraffic {
 
 // Where a lane stands among all lanes: by pair, then side A before side B, then by queue.
 fn place_of(lane: LaneName) -> usize
-    ensures { result ≡ place_of lane }
+    ensures { result ≡ lane_place_of lane }
 {
     let side = match lane.from {
         Side::A => 0,
@@ -51,7 +51,7 @@ fn push_side(
     pair: u32,
     from: Side,
 ) -> Result<(), AllocError>
-    ensures { OnOk result (map lane_frames lanes.new.items ≡ map lane_frames lanes.old.items ++ map (λ queue. frames_of [] (record { pair = pair; from = from; queue = queue })) (range_with_len 0 16)) }
+    ensures { OnOk result (map lane_frames lanes.new.items ≡ map lane_frames lanes.old.items ++ map (λ queue. lane_frames_of [] (record { pair = pair; from = from; queue = queue })) (range_with_len 0 16)) }
 {
     for queue in 0..MOST_QUEUES {
         lanes.push(LaneTraffic {
@@ -77,7 +77,7 @@ fn all_lanes(alloc: Global, pairs: usize) -> Result<Vec<LaneTraffic>, AllocError
 
 // Puts a copy of an item's frame on its lane.
 fn put(alloc: Global, lanes: &mut [LaneTraffic], item: &Traffic) -> Result<(), AllocError>
-    requires { HasPlace (length lanes.old) item.now }
+    requires { HasLanePlace (length lanes.old) item.now }
     ensures { OnOk result (map lane_frames lanes.new ≡ lanes_with (map lane_frames lanes.old) item.now) }
 {
     match item {

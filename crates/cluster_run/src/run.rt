@@ -4,7 +4,7 @@ ghost use Rattle.std.specs.Prelude.{◌≡◌, IfOk};
 ghost use Rattle.io_edges.specs.Gates.{LetsWorkers};
 ghost use Rattle.step_kinds.specs.Runs.{run_shown};
 ghost use Rattle.cluster_run.specs.Lanes.{CanRun, most_workers};
-ghost use Rattle.cluster_run.specs.Runs.{IsFit, IsShown};
+ghost use Rattle.cluster_run.specs.Runs.{IsFit, IsRunShown};
 
 use crate::group::{finished_group, next_group};
 use crate::parts::RunParts;
@@ -44,7 +44,7 @@ pub fn run_plan<R: Threads + Wait + Sync, G: Gate>(
     requires plan { CanRun plan.now }
     requires gate { LetsWorkers (G.lets gate.now) most_workers }
     ensures fits { IfOk result (λ run. IsFit plan.now (run_shown run.0)) }
-    ensures shown { IfOk result (λ run. IsShown plan.now (run_shown run.0) run.1.items) }
+    ensures shown { IfOk result (λ run. IsRunShown plan.now (run_shown run.0) run.1.items) }
 {
     let mut waiting = lanes_to_run(alloc, plan)?;
     let mut parts = RunParts::new(alloc);

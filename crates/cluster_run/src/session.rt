@@ -201,9 +201,9 @@ impl Model for Session {
 
     ghost Value = { SessionState };
 
-    ghost use Rattle.cluster_run.specs.SessionFields.{session_of, IsSession};
+    ghost use Rattle.cluster_run.specs.SessionFields.{session_of, IsRunSession};
 
     ghost view = { session_of };
 
-    ghost invariant = { IsSession };
+    ghost invariant = { IsRunSession };
 }

@@ -13,8 +13,8 @@ pub record Output : Type 0 where
   pub text : List ℕ
 
 -- a command that is done
-abbrev pub done : List ℕ → Output
-done text = record { status = number_of Done; text = text }
+abbrev pub reply_done : List ℕ → Output
+reply_done text = record { status = number_of Done; text = text }
 
 -- one line
 abbrev pub one_line : Status → List ℕ → Output

@@ -3,6 +3,6 @@ use Rattle.std.specs.Prelude.{ℕ, List}
 use Rattle.command_reply.specs.declared.reply.ReplyText.{ReplyText}
 use Rattle.command_reply.specs.declared.reply.ReplyText.TheVariants.{Built, Line}
 
-abbrev pub bytes_of : ReplyText → List ℕ
-bytes_of (Line line) = line.bytes
-bytes_of (Built bytes) = bytes.items
+abbrev pub reply_bytes_of : ReplyText → List ℕ
+reply_bytes_of (Line line) = line.bytes
+reply_bytes_of (Built bytes) = bytes.items

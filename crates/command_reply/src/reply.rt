@@ -1,7 +1,7 @@
 //! A reply: the exit status and the text that a command answers.
 
 ghost use Rattle.std.specs.Prelude.{◌≡◌, ◌<◌, ◌≤◌, length};
-ghost use Rattle.command_reply.specs.Output.{done, one_line, refused, refused_at, too_long, too_many_states, usage};
+ghost use Rattle.command_reply.specs.Output.{reply_done, one_line, refused, refused_at, too_long, too_many_states, usage};
 
 use crate::Status;
 use arrayvec::ArrayString;
@@ -31,17 +31,17 @@ pub struct Reply {
 impl Model for Reply {
     ghost use Rattle.command_reply.specs.Output.{Output};
     ghost use Rattle.command_reply.specs.Statuses.{number_of};
-    ghost use Rattle.command_reply.specs.Texts.{bytes_of};
+    ghost use Rattle.command_reply.specs.Texts.{reply_bytes_of};
 
     ghost Value = { Output };
 
-    ghost view = { λ reply. record { status = number_of reply.status; text = bytes_of reply.text } };
+    ghost view = { λ reply. record { status = number_of reply.status; text = reply_bytes_of reply.text } };
 }
 
 impl Reply {
     /// Returns the reply of a command that is done: status 0, and this text.
     pub fn done(text: Vec<u8>) -> Reply
-        ensures { result ≡ done text.items }
+        ensures { result ≡ reply_done text.items }
     {
         Reply {
             status: Status::Done,

@@ -7,10 +7,10 @@ use Rattle.step_kinds.specs.declared.lanes.Begun.TheVariants.{Ok as BegunOk}
 use Rattle.step_kinds.specs.declared.names.Side.{Side}
 use Rattle.step_kinds.specs.declared.names.Side.TheVariants.{A, B}
 use Rattle.bridge_pair.specs.Bridge.{Bridge, flight_of, pages_of, with_pages}
-use Rattle.frame_ring.specs.Calls.{begin_answer as port_begin_answer, frame_begun, where_begun}
+use Rattle.frame_ring.specs.Calls.{port_begin_answer, port_frame_begun, where_begun}
 use Rattle.frame_ring.specs.Port.{PortState, unused_of}
 use Rattle.frame_ring.specs.PortView.{FitsRings, HasPagesIn, IsLeftReady, with_room}
-use Rattle.queue_pair.specs.Gates.{after_begin, port_unless, sender_refusal}
+use Rattle.queue_pair.specs.Gates.{queue_after_begin, port_unless, sender_refusal}
 use Rattle.queue_pair.specs.Queue.{QueueState, fresh_queue}
 use Rattle.queue_pair.specs.declared.BeginAnswer.{BeginAnswer}
 use Rattle.traffic_plan.specs.Load.{load_pair}
@@ -31,9 +31,9 @@ begun_plan queue new (Some refusal) begun plan side = (refl, refl)
 begun_plan queue new None (BegunOk number) plan side = (plan, side)
 begun_plan queue new None begun plan side = (refl, refl)
 
-begin_plan : (queue : QueueState) (pair : Bridge) (frame : List ℕ) → ((after_begin queue pair frame).port.plan ≡ queue.port.plan) × ((after_begin queue pair frame).port.side ≡ queue.port.side)
+begin_plan : (queue : QueueState) (pair : Bridge) (frame : List ℕ) → ((queue_after_begin queue pair frame).port.plan ≡ queue.port.plan) × ((queue_after_begin queue pair frame).port.side ≡ queue.port.side)
 begin_plan queue pair frame =
-    begun_plan queue (frame_begun queue.port frame) (sender_refusal queue pair) (port_begin_answer queue.port pair (length frame)) refl refl
+    begun_plan queue (port_frame_begun queue.port frame) (sender_refusal queue pair) (port_begin_answer queue.port pair (length frame)) refl refl
 
 grown_spare : (pair : Bridge) (side : Side) (pages : List ℕ) (more : ℕ) → (flight_of (with_room (with_pages pair (other_side side) pages) side more) side).spare ≡ (flight_of pair side).spare + more
 grown_spare pair A pages more = refl
@@ -44,7 +44,7 @@ still_room : (spare unused unused_after spare_after : ℕ) → unused ≤ spare 
 still_room spare unused unused_after spare_after room is = omega (arith, room, is)
 
 -- A queue may have its calls made after a begin.
-pub begin_is_on : (queue new : QueueState) (pair after : Bridge) (frame : List ℕ) (pages : List ℕ) → IsQueueOn pair queue → new ≡ after_begin queue pair frame
+pub begin_is_on : (queue new : QueueState) (pair after : Bridge) (frame : List ℕ) (pages : List ℕ) → IsQueueOn pair queue → new ≡ queue_after_begin queue pair frame
     → after ≡ with_room (with_pages pair (other_side queue.port.side) pages) queue.port.side (unused_of new.port - unused_of queue.port)
     → (HasPagesIn queue.port pair → HasPagesIn new.port after) → IsQueueOn after new
 begin_is_on queue new pair after frame pages is_on is rest ready =

@@ -1,7 +1,7 @@
 //! A row of reports.
 
 ghost use Rattle.std.specs.Prelude.{◌≡◌, []};
-ghost use Rattle.traffic_plan.specs.Load.{plan_of};
+ghost use Rattle.traffic_plan.specs.Load.{load_plan_of};
 
 use report_text::report;
 use std::alloc::{AllocError, Global};
@@ -21,7 +21,7 @@ pub fn report_has_its_lines(alloc: Global) -> Result<bool, AllocError> {
 
 // Returns whether the report on the plan of a load, whose one pair is named `p`, has these lines.
 fn has_its_lines(alloc: Global, plan: &Plan) -> Result<bool, AllocError>
-    requires { plan.now ≡ plan_of [] }
+    requires { plan.now ≡ load_plan_of [] }
 {
     let lines = [LineAnswer {
         line: 6,

@@ -7,7 +7,7 @@ use Rattle.command_reply.specs.declared.status.Status.TheVariants.{TooManyStates
 use Rattle.explore_command.specs.Answers.{ExploresTo, has_made}
 use Rattle.explore_model.specs.States.{HasMoreThan, IsCensus, most_states}
 use Rattle.explore_search.proofs.Facade as searches
-use Rattle.explore_search.specs.Paths.{script_of as steps_of}
+use Rattle.explore_search.specs.Paths.{search_script_of as steps_of}
 use Rattle.script_words.specs.declared.fault.ScriptFault.{ScriptFault}
 use Rattle.step_kinds.specs.declared.plan.Plan.{Plan}
 

@@ -2,7 +2,7 @@
 use Rattle.std.specs.Prelude.{◌≡◌, ℕ, Ok, List}
 use Rattle.explore_command.specs.Answers.{has_made}
 use Rattle.explore_model.specs.States.{HasMoreThan, most_states}
-use Rattle.explore_search.specs.Paths.{script_of as steps_of}
+use Rattle.explore_search.specs.Paths.{search_script_of as steps_of}
 use Rattle.script_text.specs.Script.{script_of}
 use Rattle.step_kinds.specs.declared.plan.Plan.{Plan}
 

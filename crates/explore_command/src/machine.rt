@@ -1,7 +1,7 @@
 //! A cluster, as a search drives it.
 
 ghost use Rattle.cluster_core.specs.Cluster.{ClusterState, plan_held as plan_of_cluster};
-ghost use Rattle.cluster_core.specs.InFlight.{key_of as key_of_cluster, key_without as key_of_cluster_without};
+ghost use Rattle.cluster_core.specs.InFlight.{cluster_key_of as key_of_cluster, key_without as key_of_cluster_without};
 ghost use Rattle.explore_command.specs.Answers.{has_made as cluster_has_made};
 ghost use Rattle.cluster_core.proofs.Facade.{same_keys as clusters_have_same_keys, same_steps as clusters_have_same_steps};
 

@@ -5,7 +5,7 @@ ghost use Rattle.std.specs.List.{All, flat_map, range_with_len};
 ghost use Rattle.explore_command.specs.Landings.{LandsOnPairs};
 ghost use Rattle.explore_model.specs.Texts.{
   agree_on as agree_by_answers,
-  answer_at as answer_by_place,
+  outcome_answer_at as answer_by_place,
   common_line,
   differing_line,
   explored_text as text_of_outcomes,

@@ -20,17 +20,17 @@ abbrev pub place_in_line : List Line → ℕ → ℕ
 place_in_line steps k = count_by (λ made. made.line == line_at steps k) (take k steps) + 1
 
 -- the answer of an outcome to a step
-abbrev pub answer_at : Outcome → ℕ → List ℕ
-answer_at outcome k = slice_index_or outcome.answers k []
+abbrev pub outcome_answer_at : Outcome → ℕ → List ℕ
+outcome_answer_at outcome k = slice_index_or outcome.answers k []
 
 -- the answer of the first outcome to it
 abbrev pub first_answer : List Outcome → ℕ → List ℕ
 first_answer [] k = []
-first_answer (outcome ∷ outcomes) k = answer_at outcome k
+first_answer (outcome ∷ outcomes) k = outcome_answer_at outcome k
 
 -- whether all outcomes have the same answer to it
 abbrev pub agree_on : List Outcome → ℕ → Bool
-agree_on outcomes k = list_all (λ outcome. pointwise nat_eq (answer_at outcome k) (first_answer outcomes k)) outcomes
+agree_on outcomes k = list_all (λ outcome. pointwise nat_eq (outcome_answer_at outcome k) (first_answer outcomes k)) outcomes
 
 -- the first line
 abbrev pub head_line : List Outcome → ℕ → List ℕ
@@ -54,7 +54,7 @@ text_line plan k text = line_of (decimal (line_at plan.steps k) ++ 32 ∷ text)
 
 -- the answer of an outcome to a step on which outcomes differ
 abbrev pub differing_line : Plan → List Outcome → Outcome → ℕ → List ℕ
-differing_line plan outcomes outcome k = if agree_on outcomes k then [] else text_line plan k (answer_at outcome k)
+differing_line plan outcomes outcome k = if agree_on outcomes k then [] else text_line plan k (outcome_answer_at outcome k)
 
 -- the answer of all outcomes to a step on which they agree
 abbrev pub common_line : Plan → List Outcome → ℕ → List ℕ

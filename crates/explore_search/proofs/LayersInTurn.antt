@@ -9,7 +9,7 @@ use Rattle.explore_model.specs.States.{HasMoreThan, IsCensus}
 use Rattle.explore_model.specs.declared.outcome.Outcome.{Outcome}
 use Rattle.explore_search.specs.Closing.{ClosedUpTo, LayerClosed, states_in}
 use Rattle.explore_search.specs.Layers.{HasNext}
-use Rattle.explore_search.specs.Paths.{script_of}
+use Rattle.explore_search.specs.Paths.{search_script_of}
 use Rattle.explore_search.specs.Results.{outcome_of}
 use Rattle.explore_search.specs.Whole.{IsBased, IsCount, IsFull}
 use Rattle.explore_search.specs.declared.layers.Group.{Group}
@@ -39,7 +39,7 @@ module _ {M : Type 0} (has_made : M → Plan → List Step → Type 0) (plan_hel
 
   -- it had none
   pub more_of_none : (before limit : ℕ) (old new : List (Group M)) (found : Option ℕ) → done < length plan.steps → ((count : ℕ) → found ≡ Some count → ⊥) → LayerClosed has_made plan_held key_of plan done before limit old new found →
-      IsBased has_made plan_held key_of plan done old → IsCount has_made plan_held key_of plan done before → HasMoreThan has_made plan (script_of plan) limit
+      IsBased has_made plan_held key_of plan done old → IsCount has_made plan_held key_of plan done before → HasMoreThan has_made plan (search_script_of plan) limit
   more_of_none before limit old new found within none closed based counted =
       let steps = length-map plan.steps (λ (line : Line). line.step) in
       let past : (n : ℕ) × (n < length new) × ClosedUpTo has_made plan_held key_of plan done n old new × (limit < before + states_in (take (n + 1) new)) =
@@ -54,13 +54,13 @@ module _ {M : Type 0} (has_made : M → Plan → List Step → Type 0) (plan_hel
 
 module _ {M : Type 0} (has_made : M → Plan → List Step → Type 0) (plan_held : M → Plan) (key_of : M → List ℕ) (plan : Plan) where
   -- the last layer
-  pub last_explored : (done : ℕ) (layer : List (Group M)) (found : List Outcome) → done ≡ length plan.steps → IsBased has_made plan_held key_of plan done layer → found ≡ map outcome_of layer → IsExplored plan (script_of plan) found
+  pub last_explored : (done : ℕ) (layer : List (Group M)) (found : List Outcome) → done ≡ length plan.steps → IsBased has_made plan_held key_of plan done layer → found ≡ map outcome_of layer → IsExplored plan (search_script_of plan) found
   last_explored done layer found all based is =
       explored_of_based has_made plan_held key_of plan layer found (subst (λ (done : ℕ). IsBased has_made plan_held key_of plan done layer) all based) is
 
   -- all states are counted then
-  pub last_counted : (done count : ℕ) → done ≡ length plan.steps → IsCount has_made plan_held key_of plan done count → IsCensus has_made plan (script_of plan) count
+  pub last_counted : (done count : ℕ) → done ≡ length plan.steps → IsCount has_made plan_held key_of plan done count → IsCensus has_made plan (search_script_of plan) count
   last_counted done count all is =
       let steps = length-map plan.steps (λ (line : Line). line.step) in
-      let same : done ≡ length (script_of plan) = all ∙ sym steps in
+      let same : done ≡ length (search_script_of plan) = all ∙ sym steps in
       census_of_count has_made plan_held key_of plan count (subst (λ (done : ℕ). IsCount has_made plan_held key_of plan done count) same is)

@@ -8,8 +8,8 @@ use Rattle.step_kinds.specs.declared.steps.Step.{Step}
 use Rattle.explore_model.specs.Outcomes.{answers_cmp}
 use Rattle.explore_model.specs.Schedules.{text_after}
 use Rattle.explore_search.specs.Layers.{AreKept, AreStates, GroupsCover, HasGroups, HasNext, HaveBranched, IsLayer, LayerCovers, step_at, with_answers}
-use Rattle.explore_search.specs.Paths.{script_of}
-use Rattle.explore_search.specs.States.{Covers, HasRun}
+use Rattle.explore_search.specs.Paths.{search_script_of}
+use Rattle.explore_search.specs.States.{Covers, HasSearchRun}
 use Rattle.explore_search.specs.declared.layers.Branch.{Branch}
 use Rattle.explore_search.specs.declared.layers.Group.{Group}
 use Rattle.explore_search.specs.declared.states.State.{State}
@@ -26,7 +26,7 @@ module _ {M : Type 0} (has_made : M → Plan → List Step → Type 0) (plan_hel
         kept = All-map (λ (next : Group M). AreKept has_made plan_held key_of plan (done + 1) next.states) (with_answers answers) branches have.kept;
         each = λ are.
             All-map (λ (next : Group M). AreStates has_made plan_held key_of plan (done + 1) next.answers next.states) (with_answers answers) branches
-            (have.each answers (subst (λ (answers : List (List ℕ)). All (HasRun plan done answers) group.states) same are.runs));
+            (have.each answers (subst (λ (answers : List (List ℕ)). All (HasSearchRun plan done answers) group.states) same are.runs));
         ordered = λ i j d lt below.
             let size = length-map branches (with_answers {M = M} answers) in
             let e : Branch M = record { text = []; states = d.states } in
@@ -78,17 +78,17 @@ module _ {M : Type 0} (has_made : M → Plan → List Step → Type 0) (plan_hel
       }
 
   -- the groups of a layer have as many answers as steps were made
-  as_many : (layer : List (Group M)) (k : ℕ) (d : Group M) → done ≤ length (script_of plan) → IsLayer has_made plan_held key_of plan done layer → k < length layer → length (get_or layer k d).answers ≡ done
+  as_many : (layer : List (Group M)) (k : ℕ) (d : Group M) → done ≤ length (search_script_of plan) → IsLayer has_made plan_held key_of plan done layer → k < length layer → length (get_or layer k d).answers ≡ done
   as_many layer k d within is below =
       let are = is.groups k d below in
       let first = are.begins in
       let size = ap length first.is in
-      let run : HasRun plan done (get_or layer k d).answers first.first =
-      subst (λ (states : List (State M)). HasRun plan done (get_or layer k d).answers (get_or states 0 first.first)) first.is (are.runs 0 first.first (omega arith)) in
-      as_many_answers plan run ∙ length-take-le done (script_of plan) within
+      let run : HasSearchRun plan done (get_or layer k d).answers first.first =
+      subst (λ (states : List (State M)). HasSearchRun plan done (get_or layer k d).answers (get_or states 0 first.first)) first.is (are.runs 0 first.first (omega arith)) in
+      as_many_answers plan run ∙ length-take-le done (search_script_of plan) within
 
   -- the groups of one more
-  pub next_of_more : (layer : List (Group M)) (count : ℕ) (next groups : List (Group M)) (group : Group M) → done ≤ length (script_of plan) → count < length layer → group ≡ get_or layer count group →
+  pub next_of_more : (layer : List (Group M)) (count : ℕ) (next groups : List (Group M)) (group : Group M) → done ≤ length (search_script_of plan) → count < length layer → group ≡ get_or layer count group →
       IsNextOf layer count next → HasGroups has_made plan_held key_of plan done group groups → GroupsCover has_made plan_held key_of plan done group groups →
       IsNextOf layer (count + 1) (next ++ groups)
   next_of_more layer count next groups group within below is before have cover =

@@ -11,8 +11,8 @@ use Rattle.explore_model.specs.Schedules.{Runs, goes_on, text_after}
 use Rattle.explore_model.specs.declared.outcome.Landing.{Landing}
 use Rattle.explore_search.specs.Layers.{BranchCovers, HasPlaced, HasStepped, step_at}
 use Rattle.explore_search.specs.Machines.{HaveSameSteps}
-use Rattle.explore_search.specs.Paths.{IsLandingBy, path, script_of}
-use Rattle.explore_search.specs.States.{HasRun, made_to}
+use Rattle.explore_search.specs.Paths.{IsLandingBy, path, search_script_of}
+use Rattle.explore_search.specs.States.{HasSearchRun, made_to}
 use Rattle.explore_search.specs.declared.layers.Branch.{Branch}
 use Rattle.explore_search.specs.declared.states.State.{State}
 use Rattle.explore_search.proofs.AlongPaths.{path_goes_on}
@@ -25,22 +25,22 @@ step_of_line plan lines done line same below =
 module _ {M : Type 0} (has_made : M → Plan → List Step → Type 0) (plan_held : M → Plan) (key_of : M → List ℕ) (plan : Plan) (done : ℕ) where
   -- the way of the next step after a state
   pub made_by_step : (after : M) (landings : List Landing) (step : Step) → All (IsLandingBy plan done) landings → done < length plan.steps → step ≡ step_at plan done →
-      has_made after plan (path (script_of plan) landings done ++ step ∷ []) → has_made after plan (path (script_of plan) landings (done + 1))
+      has_made after plan (path (search_script_of plan) landings done ++ step ∷ []) → has_made after plan (path (search_script_of plan) landings (done + 1))
   made_by_step after landings step may below is has =
       let size = length-map plan.steps (λ (line : Line). line.step) in
       subst (λ (made : List Step). has_made after plan made)
-      (ap (λ (step : Step). path (script_of plan) landings done ++ step ∷ []) is ∙ sym (path_goes_on (script_of plan) plan landings done (Train 0) may (omega arith))) has
+      (ap (λ (step : Step). path (search_script_of plan) landings done ++ step ∷ []) is ∙ sym (path_goes_on (search_script_of plan) plan landings done (Train 0) may (omega arith))) has
 
   -- the run along it
   run_goes_on : (state : State M) (answers : List (List ℕ)) (text : List ℕ) → All (IsLandingBy plan done) state.landings.items → done < length plan.steps →
-      text ≡ text_after plan (made_to plan done state) (step_at plan done) → HasRun plan done answers state →
-      Runs plan (take (done + 1) (script_of plan)) state.landings.items (path (script_of plan) state.landings.items (done + 1)) (answers ++ text ∷ [])
+      text ≡ text_after plan (made_to plan done state) (step_at plan done) → HasSearchRun plan done answers state →
+      Runs plan (take (done + 1) (search_script_of plan)) state.landings.items (path (search_script_of plan) state.landings.items (done + 1)) (answers ++ text ∷ [])
   run_goes_on state answers text may below text_is run =
       let size = length-map plan.steps (λ (line : Line). line.step) in
-      subst (λ (script : List Step). Runs plan script state.landings.items (path (script_of plan) state.landings.items (done + 1)) (answers ++ text ∷ [])) (sym (take_more (script_of plan) done (Train 0) (omega arith)))
-      (subst (λ (made : List Step). Runs plan (take done (script_of plan) ++ step_at plan done ∷ []) state.landings.items made (answers ++ text ∷ []))
-      (sym (path_goes_on (script_of plan) plan state.landings.items done (Train 0) may (omega arith)))
-      (subst (λ (text : List ℕ). Runs plan (take done (script_of plan) ++ step_at plan done ∷ []) state.landings.items (made_to plan done state ++ step_at plan done ∷ []) (answers ++ text ∷ [])) (sym text_is)
+      subst (λ (script : List Step). Runs plan script state.landings.items (path (search_script_of plan) state.landings.items (done + 1)) (answers ++ text ∷ [])) (sym (take_more (search_script_of plan) done (Train 0) (omega arith)))
+      (subst (λ (made : List Step). Runs plan (take done (search_script_of plan) ++ step_at plan done ∷ []) state.landings.items made (answers ++ text ∷ []))
+      (sym (path_goes_on (search_script_of plan) plan state.landings.items done (Train 0) may (omega arith)))
+      (subst (λ (text : List ℕ). Runs plan (take done (search_script_of plan) ++ step_at plan done ∷ []) state.landings.items (made_to plan done state ++ step_at plan done ∷ []) (answers ++ text ∷ [])) (sym text_is)
       (goes_on (step_at plan done) run)))
 
   -- the landings stand before one step more

@@ -9,7 +9,7 @@ use Rattle.step_kinds.specs.declared.steps.Step.{Step}
 use Rattle.explore_model.specs.States.{CanHaveMade}
 use Rattle.explore_model.specs.declared.outcome.Landing.{Landing}
 use Rattle.explore_search.specs.Machines.{HaveSameKeys, HaveSameSteps}
-use Rattle.explore_search.specs.Paths.{IsLandingBy, path, script_of}
+use Rattle.explore_search.specs.Paths.{IsLandingBy, path, search_script_of}
 use Rattle.explore_search.specs.States.{Covers, IsMachineAt, IsState, Reaches, made_to}
 use Rattle.explore_search.specs.declared.states.State.{State}
 
@@ -63,13 +63,13 @@ module _ {M : Type 0} (has_made : M → Plan → List Step → Type 0) (plan_hel
   -- a state with this path, key and machine
   pub state_by : (plan : Plan) (done : ℕ) (state : State M) (landings : List Landing) (key : List ℕ) (machine : Option M) →
       state.landings.items ≡ landings → state.key.items ≡ key → state.machine ≡ machine → All (IsLandingBy plan done) landings →
-      ((it : M) → has_made it plan (path (script_of plan) landings done) → key_of it ≡ key) →
-      IfSome machine (IsMachineAt has_made plan_held plan (path (script_of plan) landings done)) → IsState has_made plan_held key_of plan done state
+      ((it : M) → has_made it plan (path (search_script_of plan) landings done) → key_of it ≡ key) →
+      IfSome machine (IsMachineAt has_made plan_held plan (path (search_script_of plan) landings done)) → IsState has_made plan_held key_of plan done state
   state_by plan done state landings key machine path_is key_is machine_is may has kept =
       record {
         landings = subst (λ (landings : List Landing). All (IsLandingBy plan done) landings) (sym path_is) may;
-        key = λ it made. has it (subst (λ (landings : List Landing). has_made it plan (path (script_of plan) landings done)) path_is made) ∙ sym key_is;
+        key = λ it made. has it (subst (λ (landings : List Landing). has_made it plan (path (search_script_of plan) landings done)) path_is made) ∙ sym key_is;
         kept =
-            subst (λ (landings : List Landing). IfSome state.machine (IsMachineAt has_made plan_held plan (path (script_of plan) landings done))) (sym path_is)
-            (subst (λ (machine : Option M). IfSome machine (IsMachineAt has_made plan_held plan (path (script_of plan) landings done))) (sym machine_is) kept);
+            subst (λ (landings : List Landing). IfSome state.machine (IsMachineAt has_made plan_held plan (path (search_script_of plan) landings done))) (sym path_is)
+            (subst (λ (machine : Option M). IfSome machine (IsMachineAt has_made plan_held plan (path (search_script_of plan) landings done))) (sym machine_is) kept);
       }

@@ -15,8 +15,8 @@ use Rattle.explore_model.specs.Schedules.{Runs}
 use Rattle.explore_model.specs.declared.outcome.Landing.{Landing}
 use Rattle.explore_search.specs.Layers.{AreKept, AreOrdered, AreStates, HasPlaced}
 use Rattle.explore_search.specs.Machines.{HaveSameSteps}
-use Rattle.explore_search.specs.Paths.{path, script_of}
-use Rattle.explore_search.specs.States.{Covers, HasRun, IsState, Joined, Reaches, added, found}
+use Rattle.explore_search.specs.Paths.{path, search_script_of}
+use Rattle.explore_search.specs.States.{Covers, HasSearchRun, IsState, Joined, Reaches, added, found}
 use Rattle.explore_search.specs.declared.layers.Branch.{Branch}
 use Rattle.explore_search.specs.declared.states.State.{State}
 use Rattle.explore_search.proofs.StatesAdded.{covered_by_join, grown_by_join}
@@ -37,31 +37,31 @@ module _ {M : Type 0} (has_made : M → Plan → List Step → Type 0) (plan_hel
 
   -- they are states with the same answers
   pub states_by_join : (answers : List (List ℕ)) (landings : List Landing) (old new : List (State M)) → Joined has_made plan_held key_of plan done landings old new →
-      Runs plan (take done (script_of plan)) landings (path (script_of plan) landings done) answers →
+      Runs plan (take done (search_script_of plan)) landings (path (search_script_of plan) landings done) answers →
       AreStates has_made plan_held key_of plan done answers old → AreStates has_made plan_held key_of plan done answers new
   states_by_join answers landings old new (found covers) run are = are
   states_by_join answers landings old new (added state is same none) run are =
       let grown = grown_by_join has_made plan_held key_of plan done landings old (old ++ state ∷ []) (added state is same none) in
       record {
-        runs = All-push (HasRun plan done answers) old state are.runs (subst (λ (landings : List Landing). Runs plan (take done (script_of plan)) landings (path (script_of plan) landings done) answers) (sym same) run);
+        runs = All-push (HasSearchRun plan done answers) old state are.runs (subst (λ (landings : List Landing). Runs plan (take done (search_script_of plan)) landings (path (search_script_of plan) landings done) answers) (sym same) run);
         two =
-            all_pairs_push (λ (one other : State M). Reaches has_made plan done one (path (script_of plan) other.landings.items done) → ⊥) old state are.two
+            all_pairs_push (λ (one other : State M). Reaches has_made plan done one (path (search_script_of plan) other.landings.items done) → ⊥) old state are.two
             (λ k d below reaches. none
-            (any_at (λ (state : State M). Reaches has_made plan done state (path (script_of plan) landings done)) old k d below
-            (subst (λ (landings : List Landing). Reaches has_made plan done (get_or old k d) (path (script_of plan) landings done)) same reaches)));
+            (any_at (λ (state : State M). Reaches has_made plan done state (path (search_script_of plan) landings done)) old k d below
+            (subst (λ (landings : List Landing). Reaches has_made plan done (get_or old k d) (path (search_script_of plan) landings done)) same reaches)));
         begins =
             record { first = are.begins.first; rest = are.begins.rest ++ state ∷ []; is = ap (λ (states : List (State M)). states ++ state ∷ []) are.begins.is; before = are.begins.before };
       }
 
   -- the first of a branch
   pub one_by_join : (answers : List (List ℕ)) (landings : List Landing) (new : List (State M)) → Joined has_made plan_held key_of plan done landings [] new →
-      Runs plan (take done (script_of plan)) landings (path (script_of plan) landings done) answers → All (λ landing. landing.at < done) landings →
+      Runs plan (take done (search_script_of plan)) landings (path (search_script_of plan) landings done) answers → All (λ landing. landing.at < done) landings →
       AreStates has_made plan_held key_of plan done answers new
-  one_by_join answers landings new (found covers) run before = absurd (any_none (λ (state : State M). Reaches has_made plan done state (path (script_of plan) landings done)) covers)
+  one_by_join answers landings new (found covers) run before = absurd (any_none (λ (state : State M). Reaches has_made plan done state (path (search_script_of plan) landings done)) covers)
   one_by_join answers landings new (added state is same none) run before =
       record {
-        runs = All-push (HasRun plan done answers) [] state (λ k d below. absurd (omega arith))
-            (subst (λ (landings : List Landing). Runs plan (take done (script_of plan)) landings (path (script_of plan) landings done) answers) (sym same) run);
+        runs = All-push (HasSearchRun plan done answers) [] state (λ k d below. absurd (omega arith))
+            (subst (λ (landings : List Landing). Runs plan (take done (search_script_of plan)) landings (path (search_script_of plan) landings done) answers) (sym same) run);
         two = λ i j d lt below. absurd (omega arith);
         begins = record { first = state; rest = []; is = refl; before = subst (λ (landings : List Landing). All (λ landing. landing.at < done) landings) (sym same) before };
       }
@@ -95,7 +95,7 @@ module _ {M : Type 0} (has_made : M → Plan → List Step → Type 0) (plan_hel
             All-set Are old p now
             (subst (λ (name : List ℕ). AreStates has_made plan_held key_of plan done (answers ++ name ∷ []) now.states) (sym named_now)
             (states_by_join (answers ++ branch.text ∷ []) landings branch.states now.states joined
-            (subst (λ (name : List ℕ). Runs plan (take done (script_of plan)) landings (path (script_of plan) landings done) (answers ++ name ∷ [])) (sym named) run) there))
+            (subst (λ (name : List ℕ). Runs plan (take done (search_script_of plan)) landings (path (search_script_of plan) landings done) (answers ++ name ∷ [])) (sym named) run) there))
             all;
         ordered = ordered_with_set old p branch now below is named_now;
         stays = λ name made.
@@ -120,7 +120,7 @@ module _ {M : Type 0} (has_made : M → Plan → List Step → Type 0) (plan_hel
         each = λ answers run first all.
             all_with_insert (λ (branch : Branch M). AreStates has_made plan_held key_of plan done (answers ++ branch.text ∷ []) branch.states) old p now all
             (one_by_join (answers ++ now.text ∷ []) landings now.states joined
-            (subst (λ (name : List ℕ). Runs plan (take done (script_of plan)) landings (path (script_of plan) landings done) (answers ++ name ∷ [])) (sym named) run) first);
+            (subst (λ (name : List ℕ). Runs plan (take done (search_script_of plan)) landings (path (search_script_of plan) landings done) (answers ++ name ∷ [])) (sym named) run) first);
         ordered = λ ordered.
             pairs_with_insert (λ (one other : Branch M). slice_cmp nat_cmp one.text other.text ≡ Less) old p now within ordered
             (λ k d lt. subst (λ (name : List ℕ). slice_cmp nat_cmp (get_or old k d).text name ≡ Less) (sym named) (before k d lt))

@@ -14,10 +14,10 @@ use Rattle.explore_model.specs.declared.outcome.Outcome.{Outcome}
 use Rattle.explore_search.specs.Closing.{ClosedUpTo}
 use Rattle.explore_search.specs.Layers.{AreKept, AreStates, HasNext, IsLayer, LayerCovers, step_at}
 use Rattle.explore_search.specs.Machines.{HaveSameSteps}
-use Rattle.explore_search.specs.Paths.{path, script_of}
+use Rattle.explore_search.specs.Paths.{path, search_script_of}
 use Rattle.explore_search.specs.Results.{first_landings, outcome_of}
 use Rattle.explore_search.specs.Spread.{AreClosed, IsNext}
-use Rattle.explore_search.specs.States.{Covers, HasRun, HaveGrown, Joined, Reaches, made_to}
+use Rattle.explore_search.specs.States.{Covers, HasSearchRun, HaveGrown, Joined, Reaches, made_to}
 use Rattle.explore_search.specs.Whole.{IsBase, IsBased, IsFull, base_begun, base_goes_on}
 use Rattle.explore_search.specs.declared.layers.Group.{Group}
 use Rattle.explore_search.specs.declared.states.State.{State}
@@ -99,7 +99,7 @@ module _ {M : Type 0} (has_made : M → Plan → List Step → Type 0) (plan_hel
       (some.0, some.1, some.2, some.3, (some.4.0, subst (λ (group : Group M). Covers has_made plan done group.states (made ++ landing_step landing ∷ [])) some.3 leads))
 
   -- a closed layer is full
-  pub full_of_closed : (old now : List (Group M)) → done ≤ length (script_of plan) → ClosedUpTo has_made plan_held key_of plan done (length old) old now → IsBased has_made plan_held key_of plan done old →
+  pub full_of_closed : (old now : List (Group M)) → done ≤ length (search_script_of plan) → ClosedUpTo has_made plan_held key_of plan done (length old) old now → IsBased has_made plan_held key_of plan done old →
       IsFull has_made plan_held key_of plan done now
   full_of_closed old now within closed is =
       let size = closed.size in
@@ -107,24 +107,24 @@ module _ {M : Type 0} (has_made : M → Plan → List Step → Type 0) (plan_hel
         kept = kept_grown old now (length old) closed is.kept;
         ordered = layer_grown old now (length old) closed is.ordered;
         full = λ landings made answers run.
-            full_run now (take done (script_of plan)) (length-take-le done (script_of plan) within) (λ k d below. closed.closed k d (omega arith)) run refl
+            full_run now (take done (search_script_of plan)) (length-take-le done (search_script_of plan) within) (λ k d below. closed.closed k d (omega arith)) run refl
             (λ made answers base. layer_covers_kept old now (length old) answers made closed (is.based made answers base));
       }
 
   -- the runs of one step more
-  based_run : (layer next : List (Group M)) → done < length (script_of plan) → IsFull has_made plan_held key_of plan done layer → HasNext has_made plan_held key_of plan done layer next →
-      {script : List Step} {made : List Step} {answers : List (List ℕ)} → IsBase plan script made answers → script ≡ take (done + 1) (script_of plan) →
+  based_run : (layer next : List (Group M)) → done < length (search_script_of plan) → IsFull has_made plan_held key_of plan done layer → HasNext has_made plan_held key_of plan done layer next →
+      {script : List Step} {made : List Step} {answers : List (List ℕ)} → IsBase plan script made answers → script ≡ take (done + 1) (search_script_of plan) →
       LayerCovers has_made plan_held key_of plan (done + 1) next answers made
   based_run layer next below full has base_begun same =
-      let size = ap length same ∙ length-take-le (done + 1) (script_of plan) (omega arith) in
+      let size = ap length same ∙ length-take-le (done + 1) (search_script_of plan) (omega arith) in
       absurd (omega arith)
   based_run layer next below full has (base_goes_on {script = before} {landings = landings} {made = made} {answers = answers} step run) same =
-      let parts = same_from_push before (take done (script_of plan)) step (step_at plan done) (same ∙ take_more (script_of plan) done (Train 0) below) in
+      let parts = same_from_push before (take done (search_script_of plan)) step (step_at plan done) (same ∙ take_more (search_script_of plan) done (Train 0) below) in
       subst (λ (step : Step). LayerCovers has_made plan_held key_of plan (done + 1) next (answers ++ text_after plan made step ∷ []) (made ++ step ∷ [])) (sym parts.1)
       (has.covers answers made (full.full landings made answers (subst (λ (script : List Step). Runs plan script landings made answers) parts.0 run)))
 
   -- the next layer
-  pub based_of_next : (layer next : List (Group M)) → done < length (script_of plan) → IsFull has_made plan_held key_of plan done layer → HasNext has_made plan_held key_of plan done layer next →
+  pub based_of_next : (layer next : List (Group M)) → done < length (search_script_of plan) → IsFull has_made plan_held key_of plan done layer → HasNext has_made plan_held key_of plan done layer next →
       IsBased has_made plan_held key_of plan (done + 1) next
   based_of_next layer next below full has =
       record { kept = has.kept; ordered = has.ordered full.ordered; based = λ made answers base. based_run layer next below full has base refl }
@@ -143,10 +143,10 @@ module _ {M : Type 0} (has_made : M → Plan → List Step → Type 0) (plan_hel
   pub start_based : (same : HaveSameSteps has_made) (landings : List Landing) (group : Group M) (machine : M) (layer : List (Group M)) → landings ≡ [] → has_made machine plan [] → group.answers ≡ [] →
       Joined has_made plan_held key_of plan 0 landings [] group.states → layer ≡ group ∷ [] → IsBased has_made plan_held key_of plan 0 layer
   start_based same landings group machine layer none has unanswered joined is =
-      let begins : path (script_of plan) landings 0 ≡ [] = ap (λ (landings : List Landing). path (script_of plan) landings 0) none ∙ path_begins (script_of plan) in
-      let run : Runs plan [] landings (path (script_of plan) landings 0) [] =
-      subst (λ (landings : List Landing). Runs plan [] landings (path (script_of plan) landings 0) []) (sym none)
-      (subst (λ (made : List Step). Runs plan [] [] made []) (sym (path_begins (script_of plan))) begun) in
+      let begins : path (search_script_of plan) landings 0 ≡ [] = ap (λ (landings : List Landing). path (search_script_of plan) landings 0) none ∙ path_begins (search_script_of plan) in
+      let run : Runs plan [] landings (path (search_script_of plan) landings 0) [] =
+      subst (λ (landings : List Landing). Runs plan [] landings (path (search_script_of plan) landings 0) []) (sym none)
+      (subst (λ (made : List Step). Runs plan [] [] made []) (sym (path_begins (search_script_of plan))) begun) in
       let are = one_by_join has_made plan_held key_of plan 0 [] landings group.states joined run
       (subst (λ (landings : List Landing). All (λ landing. landing.at < 0) landings) (sym none) (λ k d below. absurd (omega arith))) in
       subst (λ (layer : List (Group M)). IsBased has_made plan_held key_of plan 0 layer) (sym is)
@@ -179,22 +179,22 @@ module _ {M : Type 0} (has_made : M → Plan → List Step → Type 0) (plan_hel
   base_of_run (lands landing run at may landed) = base_of_run run
 
   -- The last layer has all outcomes, before any landing after the last step.
-  pub explored_of_based : (layer : List (Group M)) (found : List Outcome) → IsBased has_made plan_held key_of plan (length plan.steps) layer → found ≡ map outcome_of layer → IsExplored plan (script_of plan) found
+  pub explored_of_based : (layer : List (Group M)) (found : List Outcome) → IsBased has_made plan_held key_of plan (length plan.steps) layer → found ≡ map outcome_of layer → IsExplored plan (search_script_of plan) found
   explored_of_based layer found last is =
       let steps = length-map plan.steps (λ (line : Line). line.step) in
-      let whole : take (length plan.steps) (script_of plan) ≡ script_of plan = take_all (length plan.steps) (script_of plan) (omega arith) in
-      subst (λ (found : List Outcome). IsExplored plan (script_of plan) found) (sym is)
+      let whole : take (length plan.steps) (search_script_of plan) ≡ search_script_of plan = take_all (length plan.steps) (search_script_of plan) (omega arith) in
+      subst (λ (found : List Outcome). IsExplored plan (search_script_of plan) found) (sym is)
       (record {
         sound =
-            All-map (IsOutcome plan (script_of plan)) outcome_of layer
+            All-map (IsOutcome plan (search_script_of plan)) outcome_of layer
             (λ k d below.
             let are = last.ordered.groups k d below in
             let group : Group M = get_or layer k d in
             let first = are.begins in
             let size = ap length first.is in
-            let run : HasRun plan (length plan.steps) group.answers first.first =
-            subst (λ (states : List (State M)). HasRun plan (length plan.steps) group.answers (get_or states 0 first.first)) first.is (are.runs 0 first.first (omega arith)) in
-            subst (λ (states : List (State M)). IsOutcome plan (script_of plan) (record { answers = group.answers; landings = first_landings states })) (sym first.is)
+            let run : HasSearchRun plan (length plan.steps) group.answers first.first =
+            subst (λ (states : List (State M)). HasSearchRun plan (length plan.steps) group.answers (get_or states 0 first.first)) first.is (are.runs 0 first.first (omega arith)) in
+            subst (λ (states : List (State M)). IsOutcome plan (search_script_of plan) (record { answers = group.answers; landings = first_landings states })) (sym first.is)
             (record {
               made = made_to plan (length plan.steps) first.first;
               run = subst (λ (script : List Step). Runs plan script first.first.landings.items (made_to plan (length plan.steps) first.first) group.answers) whole run;

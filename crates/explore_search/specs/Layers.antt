@@ -11,15 +11,15 @@ use Rattle.step_kinds.specs.declared.steps.Step.TheVariants.{Train}
 use Rattle.explore_model.specs.Outcomes.{answers_cmp}
 use Rattle.explore_model.specs.Schedules.{Runs, text_after}
 use Rattle.explore_model.specs.declared.outcome.Landing.{Landing}
-use Rattle.explore_search.specs.Paths.{path, script_of}
-use Rattle.explore_search.specs.States.{AreTwo, Covers, HasRun, IsState, Reaches}
+use Rattle.explore_search.specs.Paths.{path, search_script_of}
+use Rattle.explore_search.specs.States.{AreTwo, Covers, HasSearchRun, IsState, Reaches}
 use Rattle.explore_search.specs.declared.layers.Branch.{Branch}
 use Rattle.explore_search.specs.declared.layers.Group.{Group}
 use Rattle.explore_search.specs.declared.states.State.{State}
 
 -- the step of a plan's script of this number
 abbrev pub step_at : Plan → ℕ → Step
-step_at plan k = slice_index_or (script_of plan) k (Train 0)
+step_at plan k = slice_index_or (search_script_of plan) k (Train 0)
 
 -- the first of some states was reached by landings that were made before this number of steps
 pub record BeginsBefore {M : Type 0} (done : ℕ) (states : List (State M)) : Type 0 where
@@ -37,8 +37,8 @@ abbrev pub AreOrdered : {M : Type 0} → List (Branch M) → Type 0
 AreOrdered branches = AllPairs (λ one other. slice_cmp nat_cmp one.text other.text ≡ Less) branches
 
 -- where a text stands among branches in their order, or where it would be put in
-abbrev pub IsPlaceOf : {M : Type 0} → List (Branch M) → List ℕ → Result ℕ ℕ → Type 0
-IsPlaceOf branches text found =
+abbrev pub IsSearchPlace : {M : Type 0} → List (Branch M) → List ℕ → Result ℕ ℕ → Type 0
+IsSearchPlace branches text found =
     MatchResult found (λ place. (place < length branches) × ((d : Branch _) → (slice_index_or branches place d).text ≡ text))
     (λ place. (place ≤ length branches) × ((k : ℕ) (d : Branch _) → k < place → slice_cmp nat_cmp (slice_index_or branches k d).text text ≡ Less)
     × ((d : Branch _) → place < length branches → slice_cmp nat_cmp (slice_index_or branches place d).text text ≡ Greater))
@@ -50,7 +50,7 @@ module _ {M : Type 0} (has_made : M → Plan → List Step → Type 0) (plan_hel
 
   -- the states of a group with these answers
   pub record AreStates (answers : List (List ℕ)) (states : List (State M)) : Type 0 where
-    pub runs : All (HasRun plan done answers) states
+    pub runs : All (HasSearchRun plan done answers) states
     pub two : AreTwo has_made plan done states
     pub begins : BeginsBefore done states
 
@@ -65,17 +65,17 @@ module _ {M : Type 0} (has_made : M → Plan → List Step → Type 0) (plan_hel
   -- a state with these landings was put into the branch of a text
   pub record HasPlaced (text : List ℕ) (landings : List Landing) (old new : List (Branch M)) : Type 0 where
     pub kept : All (λ branch. AreKept branch.states) new
-    pub each : (answers : List (List ℕ)) → Runs plan (take done (script_of plan)) landings (path (script_of plan) landings done) (answers ++ text ∷ []) →
+    pub each : (answers : List (List ℕ)) → Runs plan (take done (search_script_of plan)) landings (path (search_script_of plan) landings done) (answers ++ text ∷ []) →
         All (λ landing. landing.at < done) landings → AreBranches answers old → AreBranches answers new
     pub ordered : AreOrdered old → AreOrdered new
     pub stays : (text : List ℕ) (made : List Step) → BranchCovers old text made → BranchCovers new text made
-    pub taken : (machine : M) (made : List Step) → has_made machine plan (path (script_of plan) landings done) → has_made machine plan made → BranchCovers new text made
+    pub taken : (machine : M) (made : List Step) → has_made machine plan (path (search_script_of plan) landings done) → has_made machine plan made → BranchCovers new text made
 
 module _ {M : Type 0} (has_made : M → Plan → List Step → Type 0) (plan_held : M → Plan) (key_of : M → List ℕ) (plan : Plan) (done : ℕ) where
   -- what a state leads to by the next step was put into its branch
   pub record HasStepped (state : State M) (old new : List (Branch M)) : Type 0 where
     pub kept : All (λ branch. AreKept has_made plan_held key_of plan (done + 1) branch.states) new
-    pub each : (answers : List (List ℕ)) → HasRun plan done answers state → AreBranches has_made plan_held key_of plan (done + 1) answers old →
+    pub each : (answers : List (List ℕ)) → HasSearchRun plan done answers state → AreBranches has_made plan_held key_of plan (done + 1) answers old →
         AreBranches has_made plan_held key_of plan (done + 1) answers new
     pub ordered : AreOrdered old → AreOrdered new
     pub stays : (text : List ℕ) (made : List Step) → BranchCovers has_made plan_held key_of plan (done + 1) old text made →
@@ -86,7 +86,7 @@ module _ {M : Type 0} (has_made : M → Plan → List Step → Type 0) (plan_hel
   -- these are the branches to which states lead by the next step
   pub record HaveBranched (states : List (State M)) (branches : List (Branch M)) : Type 0 where
     pub kept : All (λ branch. AreKept has_made plan_held key_of plan (done + 1) branch.states) branches
-    pub each : (answers : List (List ℕ)) → All (HasRun plan done answers) states → AreBranches has_made plan_held key_of plan (done + 1) answers branches
+    pub each : (answers : List (List ℕ)) → All (HasSearchRun plan done answers) states → AreBranches has_made plan_held key_of plan (done + 1) answers branches
     pub ordered : AreOrdered branches
     pub taken : (made : List Step) → Covers has_made plan done states made →
         BranchCovers has_made plan_held key_of plan (done + 1) branches (text_after plan made (step_at plan done)) (made ++ step_at plan done ∷ [])

@@ -11,8 +11,8 @@ use Rattle.explore_model.specs.Schedules.{IsLanding, landing_step}
 use Rattle.explore_model.specs.declared.outcome.Landing.{Landing}
 
 -- the steps of a plan
-abbrev pub script_of : Plan → List Step
-script_of plan = steps_in plan.steps
+abbrev pub search_script_of : Plan → List Step
+search_script_of plan = steps_in plan.steps
 
 -- a plan that a script can declare
 pub record IsExplorable (plan : Plan) : Type 0 where

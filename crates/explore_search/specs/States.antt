@@ -7,16 +7,16 @@ use Rattle.step_kinds.specs.declared.steps.Step.{Step}
 use Rattle.explore_model.specs.Schedules.{Runs}
 use Rattle.explore_model.specs.States.{CanHaveMade}
 use Rattle.explore_model.specs.declared.outcome.Landing.{Landing}
-use Rattle.explore_search.specs.Paths.{IsLandingBy, path, script_of}
+use Rattle.explore_search.specs.Paths.{IsLandingBy, path, search_script_of}
 use Rattle.explore_search.specs.declared.states.State.{State}
 
 -- all that was made on the way to a state
 abbrev pub made_to : {M : Type 0} → Plan → ℕ → State M → List Step
-made_to plan done state = path (script_of plan) state.landings.items done
+made_to plan done state = path (search_script_of plan) state.landings.items done
 
 -- the way to a state is a run, with these answers
-abbrev pub HasRun : {M : Type 0} → Plan → ℕ → List (List ℕ) → State M → Type 0
-HasRun plan done answers state = Runs plan (take done (script_of plan)) state.landings.items (made_to plan done state) answers
+abbrev pub HasSearchRun : {M : Type 0} → Plan → ℕ → List (List ℕ) → State M → Type 0
+HasSearchRun plan done answers state = Runs plan (take done (search_script_of plan)) state.landings.items (made_to plan done state) answers
 
 module _ {M : Type 0} (has_made : M → Plan → List Step → Type 0) where
   -- some machine can have made these steps and those to the state
@@ -52,15 +52,15 @@ module _ {M : Type 0} (has_made : M → Plan → List Step → Type 0) (plan_hel
   -- What becomes of states where one with these landings is to be among them.
   pub data Joined (plan : Plan) (done : ℕ) (landings : List Landing) (old : List (State M)) : List (State M) → Type 0 where
     -- it is among them
-    found : Covers has_made plan done old (path (script_of plan) landings done) → Joined plan done landings old old
+    found : Covers has_made plan done old (path (search_script_of plan) landings done) → Joined plan done landings old old
     -- it is none of them, and stands after them
     added : (state : State M) → IsState plan done state → state.landings.items ≡ landings →
-        (Covers has_made plan done old (path (script_of plan) landings done) → ⊥) → Joined plan done landings old (old ++ state ∷ [])
+        (Covers has_made plan done old (path (search_script_of plan) landings done) → ⊥) → Joined plan done landings old (old ++ state ∷ [])
 
   -- states to which others were added at the end
   pub record HaveGrown (plan : Plan) (done : ℕ) (old new : List (State M)) : Type 0 where
     pub added : List (State M)
     pub is : new ≡ old ++ added
     pub each : All (IsState plan done) old → All (IsState plan done) new
-    pub runs : (answers : List (List ℕ)) → All (HasRun plan done answers) old → All (HasRun plan done answers) new
+    pub runs : (answers : List (List ℕ)) → All (HasSearchRun plan done answers) old → All (HasSearchRun plan done answers) new
     pub two : AreTwo has_made plan done old → AreTwo has_made plan done new

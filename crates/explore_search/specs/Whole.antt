@@ -7,7 +7,7 @@ use Rattle.explore_model.specs.Schedules.{Runs, text_after}
 use Rattle.explore_model.specs.States.{AreApart, LeadToOne, Passing}
 use Rattle.explore_model.specs.declared.outcome.Landing.{Landing}
 use Rattle.explore_search.specs.Layers.{AreKept, IsLayer, LayerCovers}
-use Rattle.explore_search.specs.Paths.{script_of}
+use Rattle.explore_search.specs.Paths.{search_script_of}
 use Rattle.explore_search.specs.declared.layers.Group.{Group}
 
 -- a run whose last step isn't a further landing
@@ -23,20 +23,20 @@ module _ {M : Type 0} (has_made : M → Plan → List Step → Type 0) (plan_hel
   pub record IsBased (layer : List (Group M)) : Type 0 where
     pub kept : All (λ group. AreKept has_made plan_held key_of plan done group.states) layer
     pub ordered : IsLayer has_made plan_held key_of plan done layer
-    pub based : (made : List Step) (answers : List (List ℕ)) → IsBase plan (take done (script_of plan)) made answers →
+    pub based : (made : List Step) (answers : List (List ℕ)) → IsBase plan (take done (search_script_of plan)) made answers →
         LayerCovers has_made plan_held key_of plan done layer answers made
 
   -- it has those too
   pub record IsFull (layer : List (Group M)) : Type 0 where
     pub kept : All (λ group. AreKept has_made plan_held key_of plan done group.states) layer
     pub ordered : IsLayer has_made plan_held key_of plan done layer
-    pub full : (landings : List Landing) (made : List Step) (answers : List (List ℕ)) → Runs plan (take done (script_of plan)) landings made answers →
+    pub full : (landings : List Landing) (made : List Step) (answers : List (List ℕ)) → Runs plan (take done (search_script_of plan)) landings made answers →
         LayerCovers has_made plan_held key_of plan done layer answers made
 
   -- this many states are reached by runs of fewer steps
   pub record IsCount (count : ℕ) : Type 0 where
-    pub seen : List (Passing plan (script_of plan))
+    pub seen : List (Passing plan (search_script_of plan))
     pub counted : length seen ≡ count
-    pub apart : AreApart has_made plan (script_of plan) seen
+    pub apart : AreApart has_made plan (search_script_of plan) seen
     pub within : All (λ run. length run.first < done) seen
-    pub all : (run : Passing plan (script_of plan)) → length run.first < done → Any (λ state. LeadToOne has_made plan (script_of plan) state run) seen
+    pub all : (run : Passing plan (search_script_of plan)) → length run.first < done → Any (λ state. LeadToOne has_made plan (search_script_of plan) state run) seen

@@ -2,8 +2,8 @@
 
 ghost use Rattle.std.specs.Prelude.{◌≡◌, ◌+◌, ◌<◌, ◌≤◌, ◌++◌, ◌∷◌, [], IfOk, IfSome, OnOk, length, map};
 ghost use Rattle.std.specs.List.{All};
-ghost use Rattle.explore_search.specs.Layers.{AreKept, HasPlaced, HasStepped, HaveBranched, IsPlaceOf, with_answers};
-ghost use Rattle.explore_search.specs.Paths.{IsExplorable, IsLandingBy, path, script_of};
+ghost use Rattle.explore_search.specs.Layers.{AreKept, HasPlaced, HasStepped, HaveBranched, IsSearchPlace, with_answers};
+ghost use Rattle.explore_search.specs.Paths.{IsExplorable, IsLandingBy, path, search_script_of};
 ghost use Rattle.explore_search.specs.States.{IsMachineAt, IsState};
 
 use crate::machine::Machine;
@@ -101,8 +101,8 @@ fn machine_at<M: Machine>(
     requires plan { IsExplorable plan.now }
     requires done { done ≤ length plan.now.steps }
     requires landings { All (IsLandingBy plan.now done) landings.now }
-    requires kept { IfSome machine (IsMachineAt M.has_made M.plan_held plan.now (path (script_of plan.now) landings.now done)) }
-    ensures { IfOk result (IsMachineAt M.has_made M.plan_held plan.now (path (script_of plan.now) landings.now done)) }
+    requires kept { IfSome machine (IsMachineAt M.has_made M.plan_held plan.now (path (search_script_of plan.now) landings.now done)) }
+    ensures { IfOk result (IsMachineAt M.has_made M.plan_held plan.now (path (search_script_of plan.now) landings.now done)) }
 {
     match machine {
         Some(machine) => Ok(machine),
@@ -125,7 +125,7 @@ fn place_in<M: Machine>(
     requires done { done ≤ length plan.now.steps }
     requires branches { All (λ branch. AreKept M.has_made M.plan_held M.key_of plan.now done branch.states) branches.old.items }
     requires landings { All (IsLandingBy plan.now done) landings.items }
-    requires machine { IsMachineAt M.has_made M.plan_held plan.now (path (script_of plan.now) landings.items done) machine }
+    requires machine { IsMachineAt M.has_made M.plan_held plan.now (path (search_script_of plan.now) landings.items done) machine }
     ensures { OnOk result (HasPlaced M.has_made M.plan_held M.key_of plan.now done text landings.items branches.old.items branches.new.items) }
 {
     match place_of(branches, text.as_slice()) {
@@ -144,7 +144,7 @@ fn place_in<M: Machine>(
 
 // Returns the place of the branch of a text among branches in their order, or where it would be put in.
 fn place_of<M: Machine>(branches: &[Branch<M>], text: &[u8]) -> Result<usize, usize>
-    ensures { IsPlaceOf branches.now text.now result }
+    ensures { IsSearchPlace branches.now text.now result }
 {
     for place in 0..branches.len() {
         match branches[place].text.as_slice().cmp(text) {

@@ -6,7 +6,7 @@ ghost use Rattle.pair_model.specs.PlanParts.{declared_part, steps_in};
 ghost use Rattle.step_kinds.specs.declared.plan.Plan.{Plan as PlanValue};
 ghost use Rattle.step_kinds.specs.declared.steps.Step.{Step as StepValue};
 ghost use Rattle.pair_model.specs.Switches.{IsMakeable};
-ghost use Rattle.explore_search.specs.Paths.{IsExplorable, IsLandingBy, between, path, script_of};
+ghost use Rattle.explore_search.specs.Paths.{IsExplorable, IsLandingBy, between, path, search_script_of};
 
 use crate::machine::Machine;
 use explore_model::Landing;
@@ -24,7 +24,7 @@ pub fn rebuilt<M: Machine>(
     requires plan { IsExplorable plan.now }
     requires done { done ≤ length plan.now.steps }
     requires landings { All (IsLandingBy plan.now done) landings.now }
-    ensures made { IfOk result (λ machine. M.has_made machine plan.now (path (script_of plan.now) landings.now done)) }
+    ensures made { IfOk result (λ machine. M.has_made machine plan.now (path (search_script_of plan.now) landings.now done)) }
     ensures plan { IfOk result (λ machine. M.plan_held machine ≡ declared_part plan.now) }
 {
     let lines = plan.steps.as_slice();

@@ -5,7 +5,7 @@ ghost use Rattle.std.specs.List.{All};
 ghost use Rattle.pair_model.specs.PlanParts.{declared_part};
 ghost use Rattle.step_kinds.specs.declared.steps.Step.{Step as StepValue};
 ghost use Rattle.explore_search.specs.Chains.{AreChained, HasPushed, IsLast};
-ghost use Rattle.explore_search.specs.Paths.{IsExplorable, IsLandingBy, path, script_of};
+ghost use Rattle.explore_search.specs.Paths.{IsExplorable, IsLandingBy, path, search_script_of};
 ghost use Rattle.explore_search.specs.States.{Covers, IsMachineAt, IsState, Joined, Reaches};
 
 use crate::machine::Machine;
@@ -137,7 +137,7 @@ pub fn join<M: Machine>(
     requires done { done ≤ length plan.now.steps }
     requires states { All (IsState M.has_made M.plan_held M.key_of plan.now done) states.old }
     requires landings { All (IsLandingBy plan.now done) landings.items }
-    requires machine { IsMachineAt M.has_made M.plan_held plan.now (path (script_of plan.now) landings.items done) machine }
+    requires machine { IsMachineAt M.has_made M.plan_held plan.now (path (search_script_of plan.now) landings.items done) machine }
     ensures { OnOk result (Joined M.has_made M.plan_held M.key_of plan.now done landings.items states.old states.new) }
 {
     let mut key = Vec::with_capacity(alloc, KEY_ROOM)?;

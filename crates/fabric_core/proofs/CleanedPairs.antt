@@ -8,7 +8,7 @@ use Rattle.bridge_pair.specs.Flights.{Flying}
 use Rattle.bridge_pair.specs.Laws.{KeepsPromises}
 use Rattle.posted_queue.specs.Flight.{Flight}
 use Rattle.fabric_rule.specs.Parts.{QueuePart}
-use Rattle.fabric_core.specs.Parts.{CanForget, HasOtherRoom, IsWhole}
+use Rattle.fabric_core.specs.Parts.{CanForget, HasOtherRoom, IsPairWhole}
 use Rattle.fabric_core.proofs.ForgottenQueues.{other_plan}
 use Rattle.fabric_core.proofs.Whole.{SideIsWhole, both_whole, side_forgotten, side_kept, side_whole}
 use Rattle.fabric_rule.specs.Moves.{forgotten_queue}
@@ -39,16 +39,16 @@ peer_still old new side parts other whole =
     (ap (λ (flight : Flight Flying). flight.spare) (other_flight old new side other)) whole
 
 -- A pair stays whole where the queues of side A forget their session and no room stays promised at A.
-pub forgot_a : (old mid new : Bridge) (a b forgotten : List QueuePart) → IsWhole (record { bridge = old; queues = record { a = a; b = b } }) → KeepsPromises old mid → HasOtherRoom mid A new → (flight_of new A).spare ≡ 0
-    → forgotten ≡ map forgotten_queue a → IsWhole (record { bridge = new; queues = record { a = forgotten; b = b } })
+pub forgot_a : (old mid new : Bridge) (a b forgotten : List QueuePart) → IsPairWhole (record { bridge = old; queues = record { a = a; b = b } }) → KeepsPromises old mid → HasOtherRoom mid A new → (flight_of new A).spare ≡ 0
+    → forgotten ≡ map forgotten_queue a → IsPairWhole (record { bridge = new; queues = record { a = forgotten; b = b } })
 forgot_a old mid new a b forgotten whole keeps other none is =
     both_whole new forgotten b
     (subst (λ parts. SideIsWhole new A parts) (sym is) (side_forgotten mid new A a (other_plan mid new A other) none (kept_side old mid A a keeps (side_whole _ A whole))))
     (peer_still mid new A b other (kept_side old mid B b keeps (side_whole _ B whole)))
 
 -- A pair stays whole where the queues of side B forget their session and no room stays promised at B.
-pub forgot_b : (old mid new : Bridge) (a b forgotten : List QueuePart) → IsWhole (record { bridge = old; queues = record { a = a; b = b } }) → KeepsPromises old mid → HasOtherRoom mid B new → (flight_of new B).spare ≡ 0
-    → forgotten ≡ map forgotten_queue b → IsWhole (record { bridge = new; queues = record { a = a; b = forgotten } })
+pub forgot_b : (old mid new : Bridge) (a b forgotten : List QueuePart) → IsPairWhole (record { bridge = old; queues = record { a = a; b = b } }) → KeepsPromises old mid → HasOtherRoom mid B new → (flight_of new B).spare ≡ 0
+    → forgotten ≡ map forgotten_queue b → IsPairWhole (record { bridge = new; queues = record { a = a; b = forgotten } })
 forgot_b old mid new a b forgotten whole keeps other none is =
     both_whole new a forgotten
     (peer_still mid new B a other (kept_side old mid A a keeps (side_whole _ A whole)))

@@ -7,13 +7,13 @@ use Rattle.step_kinds.specs.declared.names.Side.TheVariants.{A, B}
 use Rattle.step_kinds.specs.declared.steps.Answer.{Answer}
 use Rattle.step_kinds.specs.declared.steps.Answer.TheVariants.{OkNumber}
 use Rattle.plan_numbers.specs.Memories.{memory_size}
-use Rattle.bridge_pair.specs.Bridge.{Bridge, bytes_of}
+use Rattle.bridge_pair.specs.Bridge.{Bridge, bridge_bytes_of}
 use Rattle.pair_model.specs.Addresses.{own_index_word}
 use Rattle.pair_model.specs.Headers.{free_in_memory, index_word_in}
 use Rattle.host_memory.specs.Memory.{bytes_at}
-use Rattle.frame_ring.specs.Calls.{begin_answer as port_begin_answer, frame_begun, free_answer, head_seen, sizes_seen, where_begun}
+use Rattle.frame_ring.specs.Calls.{port_begin_answer, port_frame_begun, free_answer, head_seen, sizes_seen, where_begun}
 use Rattle.frame_ring.specs.Port.{PortState}
-use Rattle.queue_pair.specs.Gates.{after_begin, answer_unless, begin_answer, port_unless, sender_refusal}
+use Rattle.queue_pair.specs.Gates.{queue_after_begin, answer_unless, begin_answer, port_unless, sender_refusal}
 use Rattle.queue_pair.specs.Queue.{QueueState}
 use Rattle.queue_pair.specs.declared.BeginAnswer.{BeginAnswer}
 use Rattle.queue_pair.specs.declared.BeginAnswer.TheVariants.{Ok as QueueBegun, LinkDown, NotReady, Closed, TooLong, Busy, NoRoom}
@@ -22,7 +22,7 @@ use Rattle.fabric_rule.specs.Parts.{QueuePart, one_more, plain_bridge}
 use Rattle.fabric_core.specs.QueueCalls.{IsBegun, is_begun, counted_begun, refused_once}
 use Rattle.fabric_core.proofs.QueueParts.{not_begun}
 use Rattle.pair_model.specs.Ethernet.{ethernet_frame}
-use Rattle.fabric_rule.specs.Turns.{accepted_where_begun, begin_turn, frame_answer, frame_turn, xbegun}
+use Rattle.fabric_rule.specs.Turns.{accepted_where_begun, begin_turn, device_frame_answer, frame_turn, xbegun}
 
 -- Free entries depend on bytes alone
 
@@ -32,14 +32,14 @@ free_by port bytes =
     then free_in_memory (sizes_seen port).entries (head_seen port) (index_word_in port.plan (λ side at len. bytes_at at len bytes) port.side port.queue)
     else 0
 
-plain_bytes : (bridge : Bridge) (side : Side) → bytes_of (plain_bridge bridge) side ≡ bytes_of bridge side
+plain_bytes : (bridge : Bridge) (side : Side) → bridge_bytes_of (plain_bridge bridge) side ≡ bridge_bytes_of bridge side
 plain_bytes bridge A = refl
 plain_bytes bridge B = refl
 
 free_same : (port : PortState) (before after : Bridge) → plain_bridge after ≡ plain_bridge before → free_answer port after ≡ free_answer port before
 unfolding free_by
 free_same port before after plain =
-    ap (free_by port) (sym (plain_bytes after port.side) ∙ ap (λ (bridge : Bridge). bytes_of bridge port.side) plain ∙ plain_bytes before port.side)
+    ap (free_by port) (sym (plain_bytes after port.side) ∙ ap (λ (bridge : Bridge). bridge_bytes_of bridge port.side) plain ∙ plain_bytes before port.side)
 
 -- A frame that wasn't begun leaves the queue as it was
 
@@ -64,9 +64,9 @@ unbegun_by (Some refusal) begun queue new is = refl
 unbegun_by None (BegunOk number) queue new is = absurd (cc is)
 unbegun_by None begun queue new is = refl
 
-unbegun : (queue : QueueState) (bridge : Bridge) (frame : List ℕ) → was_begun (begin_answer queue bridge (length frame)) ≡ false → after_begin queue bridge frame ≡ queue
+unbegun : (queue : QueueState) (bridge : Bridge) (frame : List ℕ) → was_begun (begin_answer queue bridge (length frame)) ≡ false → queue_after_begin queue bridge frame ≡ queue
 unbegun queue bridge frame =
-    unbegun_by (sender_refusal queue bridge) (port_begin_answer queue.port bridge (length frame)) queue (frame_begun queue.port frame)
+    unbegun_by (sender_refusal queue bridge) (port_begin_answer queue.port bridge (length frame)) queue (port_frame_begun queue.port frame)
 
 -- Begun and then counted
 
@@ -77,7 +77,7 @@ begun_counts answer session part begun = absurd (cc begun)
 
 -- and once a device's frame is begun, the device and its counters are as the move has them
 counted_by : (answer : Answer) (part : QueuePart) (bridge : Bridge) (frame : List ℕ) → IsBegun answer
-    → (let begun = accepted_where_begun answer bridge.link.session (record part { queue = after_begin part.queue bridge frame }) in
+    → (let begun = accepted_where_begun answer bridge.link.session (record part { queue = queue_after_begin part.queue bridge frame }) in
     counted_begun begun (free_answer begun.queue.port bridge) (length frame) ≡ xbegun answer bridge part frame)
 counted_by (OkNumber number) part bridge frame begun = refl
 counted_by answer part bridge frame begun = absurd (cc begun)
@@ -120,9 +120,9 @@ frame_length dst src kind payload to from = simp length-append (omega (arith, to
 
 -- what a device's frame is answered follows from its length
 pub answered_by_length : (part : QueuePart) (bridge : Bridge) (dst src : List ℕ) (kind : ℕ) (payload : List ℕ) (given : Answer) (size : ℕ) → length dst ≡ 6 → length src ≡ 6
-    → size ≡ length payload → given ≡ frame_answer part bridge (14 + size) → given ≡ (frame_turn part bridge (ethernet_frame dst src kind payload)).answer
+    → size ≡ length payload → given ≡ device_frame_answer part bridge (14 + size) → given ≡ (frame_turn part bridge (ethernet_frame dst src kind payload)).answer
 answered_by_length part bridge dst src kind payload given size to from same is =
-    is ∙ ap (frame_answer part bridge) (ap (λ size. 14 + size) same ∙ sym (frame_length dst src kind payload to from))
+    is ∙ ap (device_frame_answer part bridge) (ap (λ size. 14 + size) same ∙ sym (frame_length dst src kind payload to from))
 
 -- an answer by which a frame was begun
 pub begins_by : (given answer : Answer) (number : ℕ) → given ≡ answer → given ≡ OkNumber number → IsBegun answer
@@ -150,7 +150,7 @@ pub refused_begin : (part : QueuePart) (bridge : Bridge) (frame : List ℕ) → 
 refused_begin part bridge frame other =
     let answer = begin_answer part.queue bridge (length frame) in
     ap (λ (queue : QueueState). record part { queue = queue }) (sym (unbegun part.queue bridge frame (not_was answer other)))
-    ∙ sym (not_begun answer bridge.link.session (record part { queue = after_begin part.queue bridge frame }) other)
+    ∙ sym (not_begun answer bridge.link.session (record part { queue = queue_after_begin part.queue bridge frame }) other)
 
 -- a device's begin that is refused is counted once
 refused_by : (answer : Answer) (bridge : Bridge) (part : QueuePart) (frame : List ℕ) → is_begun answer ≡ false → refused_once part ≡ xbegun answer bridge part frame
@@ -170,4 +170,4 @@ begun_counters answer session part = refl
 -- A begin of a frame that is no device's leaves the counters of the queue as they were.
 pub begin_counters : (part : QueuePart) (bridge : Bridge) (frame : List ℕ) → (begin_turn part bridge frame).part.counters ≡ part.counters
 begin_counters part bridge frame =
-    begun_counters (of_begin (begin_answer part.queue bridge (length frame))) bridge.link.session (record part { queue = after_begin part.queue bridge frame })
+    begun_counters (of_begin (begin_answer part.queue bridge (length frame))) bridge.link.session (record part { queue = queue_after_begin part.queue bridge frame })

@@ -11,7 +11,7 @@ use Rattle.step_kinds.specs.declared.steps.Answer.TheVariants.{Delivered}
 use Rattle.step_kinds.specs.declared.steps.Step.{Step}
 use Rattle.step_kinds.specs.declared.steps.Step.TheVariants.{Copy}
 use Rattle.pair_model.specs.DeclaredPlans.{IsQueueOf}
-use Rattle.frame_ring.specs.Calls.{copy_answer, frame_due as due_at_port, frame_of_copy}
+use Rattle.frame_ring.specs.Calls.{port_copy_answer, port_frame_due as due_at_port, frame_of_copy}
 use Rattle.fabric_rule.specs.Answers.{of_copy}
 use Rattle.fabric_rule.specs.Parts.{queue_of}
 use Rattle.fabric_core.specs.Fabric.{FabricState, pair_of, plan_kept}
@@ -35,7 +35,7 @@ frame_made answer some = cc some
 pub due_is : (fabric : FabricState) (own : LaneName) →
     due_at_port (queue_of (pair_of fabric own.pair) own.from own.queue).queue.port (pair_of fabric own.pair).bridge ≡ frame_due fabric own
 unfolding frame_due rule_answer
-due_is fabric own = answer_delivers (copy_answer (queue_of (pair_of fabric own.pair) own.from own.queue).queue.port (pair_of fabric own.pair).bridge)
+due_is fabric own = answer_delivers (port_copy_answer (queue_of (pair_of fabric own.pair) own.from own.queue).queue.port (pair_of fabric own.pair).bridge)
 
 -- If a frame is due, the log of whatever steps a fabric has made doesn't refuse the copy.
 pub due_wanted : (fabric : FabricState) (own : LaneName) → IsQueueOf (plan_kept fabric) own.pair own.from own.queue → IsSome (frame_due fabric own) →

@@ -14,7 +14,7 @@ use Rattle.step_kinds.specs.declared.names.Side.TheVariants.{A, B}
 use Rattle.fabric_rule.specs.Laws.{IsFreshPair, IsFreshQueue}
 use Rattle.fabric_rule.specs.Parts.{QueuePart, no_queue, queue_of, queues_of}
 use Rattle.fabric_rule.specs.StandsFor.{IsOn}
-use Rattle.fabric_core.specs.Parts.{AreAlone, AreFreshQueues, AreLimitsOn, IsWhole, fresh_part}
+use Rattle.fabric_core.specs.Parts.{AreAlone, AreFreshQueues, AreLimitsOn, IsPairWhole, fresh_part}
 use Rattle.fabric_core.proofs.Whole.{SideIsWhole, both_whole, side_fresh}
 
 -- The queues made so far
@@ -77,7 +77,7 @@ nothing_promised plan pages B = refl
 
 -- A fresh bridge with all fresh queues is whole: each in place, and room promised just for what they haven't used.
 pub fresh_whole : (devs : List DevPlan) (plan : PairPlan) (k : ℕ) (bridge : Bridge) (pages : Both (List ℕ)) (a b : List QueuePart) → bridge ≡ fresh_bridge plan pages
-    → AreFreshQueues devs plan k A a → AreFreshQueues devs plan k B b → IsWhole (record { bridge = bridge; queues = record { a = a; b = b } })
+    → AreFreshQueues devs plan k A a → AreFreshQueues devs plan k B b → IsPairWhole (record { bridge = bridge; queues = record { a = a; b = b } })
 fresh_whole devs plan k bridge pages a b fresh fresh_a fresh_b =
     both_whole bridge a b (of_side A a fresh_a) (of_side B b fresh_b)
   where

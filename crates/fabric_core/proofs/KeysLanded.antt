@@ -15,11 +15,11 @@ use Rattle.step_kinds.specs.declared.steps.Step.TheVariants.{Land}
 use Rattle.pair_model.specs.Both.{Both, with_side}
 use Rattle.pair_model.specs.DeclaredPlans.{IsPairOf, IsPermitted}
 use Rattle.posted_queue.specs.Flight.{Flight}
-use Rattle.posted_queue.specs.Landing.{after_landing, answer_for}
+use Rattle.posted_queue.specs.Landing.{flight_after_landing, answer_for}
 use Rattle.posted_queue.specs.declared.LandAnswer.{LandAnswer}
 use Rattle.posted_queue.specs.declared.LandAnswer.TheVariants as landing_answer
 use Rattle.bridge_pair.specs.Bridge.{Bridge, flight_of, with_flight}
-use Rattle.bridge_pair.specs.Calls.{after_land, after_landed, arrived, landing}
+use Rattle.bridge_pair.specs.Calls.{after_land, after_landed, bridge_arrived, landing}
 use Rattle.bridge_pair.specs.Flights.{Flying, flying_order}
 use Rattle.bridge_pair.specs.declared.flying_write.Arrival.{Arrival}
 use Rattle.bridge_pair.specs.declared.flying_write.Arrival.TheVariants.{AtAddress, AtBell, AtPad}
@@ -40,7 +40,7 @@ might (Some write) true flying is = refl
 might (Some write) false flying is = cc is
 
 -- what arrives is in flight no more, and changes nothing else in flight
-flights_arrived : (bridge : Bridge) (side : Side) (arrival : Arrival) → (arrived bridge side arrival).flights ≡ bridge.flights
+flights_arrived : (bridge : Bridge) (side : Side) (arrival : Arrival) → (bridge_arrived bridge side arrival).flights ≡ bridge.flights
 flights_arrived bridge side (AtAddress at bytes) = refl
 flights_arrived bridge side (AtPad index value) = refl
 flights_arrived bridge side (AtBell bit) = refl
@@ -52,7 +52,7 @@ without bridge side place = record { writes = remove (flight_of bridge side).wri
 flights_landed : (bridge : Bridge) (side : Side) (place : ℕ) (flying : Flying) → landing bridge side place ≡ landing_answer.Landed flying →
     (after_land bridge side place).flights ≡ with_side bridge.flights side (without bridge side place)
 flights_landed bridge side place flying is =
-    let taken : Bridge = with_flight bridge side (after_landing flying_order (flight_of bridge side) place) in
+    let taken : Bridge = with_flight bridge side (flight_after_landing flying_order (flight_of bridge side) place) in
     ap (λ (answer : LandAnswer Flying). (after_landed taken (other_side side) answer).flights) is
     ∙ flights_arrived taken (other_side side) flying.arrival
     ∙ ap (λ (test : Bool). with_side bridge.flights side (if test then without bridge side place else flight_of bridge side)) (might _ _ flying is)

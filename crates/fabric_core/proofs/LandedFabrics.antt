@@ -14,9 +14,9 @@ use Rattle.ledger_model.specs.Log.{Answered}
 use Rattle.pair_model.specs.DeclaredPlans.{IsPairOf}
 use Rattle.posted_queue.specs.declared.LandAnswer.{LandAnswer}
 use Rattle.posted_queue.specs.declared.LandAnswer.TheVariants as landing_answer
-use Rattle.posted_queue.specs.Landing.{after_landing}
+use Rattle.posted_queue.specs.Landing.{flight_after_landing}
 use Rattle.bridge_pair.specs.Bridge.{Bridge, flight_of, with_flight}
-use Rattle.bridge_pair.specs.Calls.{after_land, after_landed, arrived, landing}
+use Rattle.bridge_pair.specs.Calls.{after_land, after_landed, bridge_arrived, landing}
 use Rattle.bridge_pair.specs.Ends.{label_landed}
 use Rattle.bridge_pair.specs.Flights.{Flying, flying_order}
 use Rattle.bridge_pair.specs.declared.flying_write.Arrival.{Arrival}
@@ -38,7 +38,7 @@ abbrev pub landed_pair : PairState → ℕ → Side → ℕ → PairState
 landed_pair pair k side place = (move_of [] pair (Land k side place)).after
 
 -- what arrives leaves the plan
-plan_of_arrived : (bridge : Bridge) (side : Side) (arrival : Arrival) → (arrived bridge side arrival).plan ≡ bridge.plan
+plan_of_arrived : (bridge : Bridge) (side : Side) (arrival : Arrival) → (bridge_arrived bridge side arrival).plan ≡ bridge.plan
 plan_of_arrived bridge side (AtAddress at bytes) = refl
 plan_of_arrived bridge side (AtPad index value) = refl
 plan_of_arrived bridge side (AtBell bit) = refl
@@ -47,7 +47,7 @@ plan_of_arrived bridge side (AtBell bit) = refl
 plan_stays : (bridge : Bridge) (side : Side) (place : ℕ) → (after_land bridge side place).plan ≡ bridge.plan
 plan_stays bridge side place = by_answer (landing bridge side place) where
   taken : Bridge
-  taken = with_flight bridge side (after_landing flying_order (flight_of bridge side) place)
+  taken = with_flight bridge side (flight_after_landing flying_order (flight_of bridge side) place)
 
   by_answer : (answer : LandAnswer Flying) → (after_landed taken (other_side side) answer).plan ≡ bridge.plan
   by_answer (landing_answer.Landed flying) = plan_of_arrived taken (other_side side) flying.arrival

@@ -16,7 +16,7 @@ use Rattle.ledger_model.specs.Memory.{memory_of, site_of}
 use Rattle.ledger_laws.proofs.Facade.{sites_are_the_ledger}
 use Rattle.bridge_pair.specs.Bridge.{Bridge}
 use Rattle.fabric_rule.specs.Parts.{queue_of}
-use Rattle.fabric_rule.specs.StandsFor.{QueueStands, has_forgotten, view_of}
+use Rattle.fabric_rule.specs.StandsFor.{QueueStands, has_link_forgotten, view_of}
 use Rattle.fabric_core.specs.Fabric.{FabricState, accepted_of, delivered_of, pair_of, plan_kept}
 use Rattle.fabric_core.specs.LogClauses.{HasMade, log_after}
 use Rattle.fabric_core.proofs.StepsOfFabrics.{plan_of_standing, queue_of_bare}
@@ -29,7 +29,7 @@ module _ (plan : Plan) (steps : List Step) (fabric : FabricState) (made : HasMad
   pair_kept k is = subst (λ plan. IsPairOf plan k) (plan_of_standing plan steps fabric made.stands) is
 
   queue_stands : (k : ℕ) (side : Side) (queue : ℕ) → IsQueueOf plan k side queue
-      → QueueStands plan.devs (pair_plan plan k) k side queue (has_forgotten (site_of plan k steps).pair.link side) (view_of (site_of plan k steps).pair side queue) (queue_of (pair_of fabric k) side queue)
+      → QueueStands plan.devs (pair_plan plan k) k side queue (has_link_forgotten (site_of plan k steps).pair.link side) (view_of (site_of plan k steps).pair side queue) (queue_of (pair_of fabric k) side queue)
   queue_stands k side queue is = ((made.stands.pairs k is.declared).sides side).queues queue is.among
 
   there_and_back : (side : Side) → other_side (other_side side) ≡ side

@@ -4,7 +4,7 @@ use Rattle.step_kinds.specs.declared.names.Side.{Side}
 use Rattle.step_kinds.specs.declared.names.Side.TheVariants.{A, B}
 use Rattle.bridge_pair.specs.Bridge.{Bridge, pages_of, with_pages}
 use Rattle.bridge_pair.specs.Writes.{PostedWrite}
-use Rattle.hand_shake.specs.Checks.{after_answer, after_check, check_answer}
+use Rattle.hand_shake.specs.Checks.{after_check_answer, after_check, check_answer}
 use Rattle.hand_shake.specs.Offers.{with_posted}
 use Rattle.hand_shake.specs.declared.CheckAnswer.{CheckAnswer}
 use Rattle.hand_shake.specs.declared.CheckAnswer.TheVariants.{Up}
@@ -64,7 +64,7 @@ posted_more old mid new side write up more is =
           subst (λ pages. Contains pages page) (sym (pages any)) (more.stay any page (subst (λ pages. Contains pages page) (posted-pages old side any write) had));
     })
 
-checked-pages : (bridge : Bridge) (side : Side) (answer : CheckAnswer) → pages_of (after_answer bridge side answer) side ≡ pages_of bridge side
+checked-pages : (bridge : Bridge) (side : Side) (answer : CheckAnswer) → pages_of (after_check_answer bridge side answer) side ≡ pages_of bridge side
 checked-pages bridge A Up = refl
 checked-pages bridge B Up = refl
 checked-pages bridge side answer = refl

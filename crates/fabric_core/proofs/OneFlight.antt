@@ -14,7 +14,7 @@ use Rattle.bridge_pair.specs.Bridge.{Bridge, flight_of, pages_of, with_bytes, wi
 use Rattle.bridge_pair.specs.Ends.{after_posting}
 use Rattle.bridge_pair.specs.Flights.{Flying, flying_of}
 use Rattle.bridge_pair.specs.Writes.{bell_write, memory_write}
-use Rattle.frame_ring.specs.Calls.{acked_by, after_clear, cleared_by, first_posted, last_got, next_begun, posted_by}
+use Rattle.frame_ring.specs.Calls.{port_acked_by, port_after_clear, cleared_by, first_posted, last_got, port_next_begun, posted_by}
 use Rattle.frame_ring.specs.Port.{PortState, unused_of}
 use Rattle.frame_ring.specs.PortView.{HasPagesIn, flags_cleared, index_posted, reaches, ring_posted, window_posted}
 use Rattle.frame_ring.proofs.Facade.{unused_cleared}
@@ -65,10 +65,10 @@ first_flight bridge side entry (label ∷ todo) = write_flight bridge side entry
 
 -- A post by a port changes nothing of the bridge but the flight of the port's side.
 pub post_flight : (port : PortState) (bridge : Bridge) → OneFlight bridge port.side (posted_by port bridge)
-post_flight port bridge = first_flight bridge port.side (next_begun port.queue port.sending).entry (next_begun port.queue port.sending).todo
+post_flight port bridge = first_flight bridge port.side (port_next_begun port.queue port.sending).entry (port_next_begun port.queue port.sending).todo
 
 -- An ack by a port changes nothing of the bridge but the flight of the port's side.
-pub ack_flight : (port : PortState) (bridge : Bridge) → OneFlight bridge port.side (acked_by port bridge)
+pub ack_flight : (port : PortState) (bridge : Bridge) → OneFlight bridge port.side (port_acked_by port bridge)
 ack_flight port bridge = at_test (is_cleared port.receiving.phase) where
   at_test : (cleared : Bool) → OneFlight bridge port.side (if cleared then index_posted bridge port.side port.queue (last_got port.receiving) else bridge)
   at_test true =
@@ -130,10 +130,10 @@ keeps_bytes old new before after same other room ready =
       same_room spare after unused unused_after e f = omega (arith, e, f)
 
 -- a clear, which uses no promise, as the part of its queue is seen
-pub clear_keeps : (seen part : QueuePart) (new : QueueState) (before after : Bridge) → seen ≡ part → new ≡ with_port seen.queue (after_clear seen.queue.port)
+pub clear_keeps : (seen part : QueuePart) (new : QueueState) (before after : Bridge) → seen ≡ part → new ≡ with_port seen.queue (port_after_clear seen.queue.port)
     → after ≡ cleared_by seen.queue.port before → HasPagesIn new.port after → HasPagesIn part.queue.port before → KeepsPort part.queue.port new.port before after
 clear_keeps seen part new before after view is e ready =
     let old = seen.queue.port in
-    keeps_seen seen part new (with_port seen.queue (after_clear old)) before after view is (clear_place old)
+    keeps_seen seen part new (with_port seen.queue (port_after_clear old)) before after view is (clear_place old)
     (λ same. keeps_bytes old new.port before after same (subst (OtherBytes before old.side) (sym e) (clear_bytes old before))
     (ap (λ (queue : QueueState). unused_of queue.port) is ∙ unused_cleared old)) (λ had. ready)

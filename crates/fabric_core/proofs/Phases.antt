@@ -6,10 +6,10 @@ use Rattle.lane_model.specs.Tests.{is_cleared, is_copied, is_copying, is_idle}
 use Rattle.lane_model.specs.declared.Phase.TheVariants.{Idle, Copied, Cleared}
 use Rattle.bridge_pair.specs.Bridge.{Bridge}
 use Rattle.pair_model.specs.Headers.{Found, NoEntry, ALinkDownEntry, AnotherVersion, TooManyBytes, AnEntry}
-use Rattle.frame_ring.specs.Calls.{after_ack, after_clear, after_copy, after_look as port_after_look, after_post, copy_answer, entry_found, found_seen, gathered_next, look_found, more_entries, more_parts, part_answer, part_copied}
+use Rattle.frame_ring.specs.Calls.{port_after_ack, port_after_clear, port_after_copy, port_after_look, port_after_post, port_copy_answer, entry_found, found_seen, gathered_next, look_found, more_entries, more_parts, part_answer, part_copied}
 use Rattle.frame_ring.specs.Port.{PortState, Receiving, with_receiving}
 use Rattle.frame_ring.specs.declared.RingLook.TheVariants.{OutOfTurn as RingOutOfTurn}
-use Rattle.queue_pair.specs.Gates.{after_look, after_look_answer, answer_of_look, is_joined, look_answer}
+use Rattle.queue_pair.specs.Gates.{queue_after_look, after_look_answer, answer_of_look, is_joined, look_answer}
 use Rattle.queue_pair.specs.Queue.{QueueState}
 use Rattle.queue_pair.specs.declared.LookAnswer.{LookAnswer}
 use Rattle.queue_pair.specs.declared.LookAnswer.TheVariants.{Ready, PeerDown, NotReady as NotJoined, Closed as QueueClosed}
@@ -34,11 +34,11 @@ parts receiving gathered more others =
     else record receiving { got = receiving.got + 1; phase = Copied; gathered = []; done = receiving.done + 1 }
 
 -- A copy leaves a port with the plan, side and queue that it had.
-pub copy_place : (port : PortState) (bridge : Bridge) → SamePlace (after_copy port bridge) port
+pub copy_place : (port : PortState) (bridge : Bridge) → SamePlace (port_after_copy port bridge) port
 copy_place port bridge = place_if port (part_copied port.receiving (gathered_next port bridge)) (is_copying port.receiving.phase)
 
 -- no call but a look begins to copy
-pub copy_goes_on : (port : PortState) (bridge : Bridge) → is_copying (after_copy port bridge).receiving.phase ≡ true → is_copying port.receiving.phase ≡ true
+pub copy_goes_on : (port : PortState) (bridge : Bridge) → is_copying (port_after_copy port bridge).receiving.phase ≡ true → is_copying port.receiving.phase ≡ true
 copy_goes_on port bridge = at_test (is_copying port.receiving.phase) refl where
   at_test : (copying : Bool) → is_copying port.receiving.phase ≡ copying
       → is_copying (if copying then with_receiving port (part_copied port.receiving (gathered_next port bridge)) else port).receiving.phase ≡ true
@@ -49,7 +49,7 @@ copy_goes_on port bridge = at_test (is_copying port.receiving.phase) refl where
 -- a frame is whole as its last entry was copied
 
 -- A copy that is answered with a whole frame is one by a receiver that was copying an entry.
-pub whole_copying : (port : PortState) (bridge : Bridge) (number : ℕ) (frame : List ℕ) → copy_answer port bridge ≡ Whole number frame → is_copying port.receiving.phase ≡ true
+pub whole_copying : (port : PortState) (bridge : Bridge) (number : ℕ) (frame : List ℕ) → port_copy_answer port bridge ≡ Whole number frame → is_copying port.receiving.phase ≡ true
 whole_copying port bridge number frame = at_test (is_copying port.receiving.phase) refl where
   at_test : (copying : Bool) → is_copying port.receiving.phase ≡ copying
       → (if copying then part_answer port.receiving (gathered_next port bridge) else NotCopying) ≡ Whole number frame → is_copying port.receiving.phase ≡ true
@@ -63,8 +63,8 @@ answers receiving gathered more others =
     else Whole receiving.done gathered
 
 -- After a copy that is answered with a whole frame the receiver isn't copying any more.
-pub whole_copied : (port : PortState) (bridge : Bridge) (number : ℕ) (frame : List ℕ) → copy_answer port bridge ≡ Whole number frame
-    → is_copying (after_copy port bridge).receiving.phase ≡ false
+pub whole_copied : (port : PortState) (bridge : Bridge) (number : ℕ) (frame : List ℕ) → port_copy_answer port bridge ≡ Whole number frame
+    → is_copying (port_after_copy port bridge).receiving.phase ≡ false
 unfolding parts answers
 whole_copied port bridge number frame = at_tests (is_copying port.receiving.phase) (more_parts port.receiving) (more_entries port.receiving) where
   at_tests : (copying more others : Bool) → (if copying then answers port.receiving (gathered_next port bridge) more others else NotCopying) ≡ Whole number frame
@@ -77,25 +77,25 @@ whole_copied port bridge number frame = at_tests (is_copying port.receiving.phas
 -- Clearing and giving back
 
 -- A clear leaves a port with the plan, side and queue that it had.
-pub clear_place : (port : PortState) → SamePlace (after_clear port) port
+pub clear_place : (port : PortState) → SamePlace (port_after_clear port) port
 clear_place port = place_if port (record port.receiving { phase = Cleared }) (is_copied port.receiving.phase)
 
 -- A receiver that is copying after a clear was copying before it.
-pub clear_goes_on : (port : PortState) → is_copying (after_clear port).receiving.phase ≡ true → is_copying port.receiving.phase ≡ true
+pub clear_goes_on : (port : PortState) → is_copying (port_after_clear port).receiving.phase ≡ true → is_copying port.receiving.phase ≡ true
 clear_goes_on port = goes_on_if port (record port.receiving { phase = Cleared }) (is_copied port.receiving.phase) refl
 
 -- An ack leaves a port with the plan, side and queue that it had.
-pub ack_place : (port : PortState) → SamePlace (after_ack port) port
+pub ack_place : (port : PortState) → SamePlace (port_after_ack port) port
 ack_place port = place_if port (record port.receiving { phase = Idle }) (is_cleared port.receiving.phase)
 
 -- A receiver that is copying after an ack was copying before it.
-pub ack_goes_on : (port : PortState) → is_copying (after_ack port).receiving.phase ≡ true → is_copying port.receiving.phase ≡ true
+pub ack_goes_on : (port : PortState) → is_copying (port_after_ack port).receiving.phase ≡ true → is_copying port.receiving.phase ≡ true
 ack_goes_on port = goes_on_if port (record port.receiving { phase = Idle }) (is_cleared port.receiving.phase) refl
 
 -- Posting
 
 -- A post leaves a port with the plan, side and queue that it had.
-pub post_place : (port : PortState) → SamePlace (after_post port) port
+pub post_place : (port : PortState) → SamePlace (port_after_post port) port
 post_place port = record { same_plan = refl; same_side = refl; same_queue = refl }
 
 -- Looking
@@ -106,7 +106,7 @@ look_at PeerDown queue port same = same_place queue.port
 look_at answer queue port same = same_place queue.port
 
 -- A look leaves the port of a queue with the plan, side and queue that it had.
-pub look_place : (queue : QueueState) (bridge : Bridge) → SamePlace (after_look queue bridge).port queue.port
+pub look_place : (queue : QueueState) (bridge : Bridge) → SamePlace (queue_after_look queue bridge).port queue.port
 look_place queue bridge =
     look_at (look_answer queue bridge) queue (port_after_look queue.port bridge) (place_if queue.port (entry_found queue.port.receiving (found_seen queue.port bridge)) (is_idle queue.port.receiving.phase))
 
@@ -140,5 +140,5 @@ unfound_by answer queue port other = refl
 
 -- A look that isn't answered ready leaves the receiver of the queue's port as it was.
 pub unfound_receives : (queue : QueueState) (bridge : Bridge) → ((number len : ℕ) → look_answer queue bridge ≡ Ready number len → ⊥)
-    → (after_look queue bridge).port.receiving ≡ queue.port.receiving
+    → (queue_after_look queue bridge).port.receiving ≡ queue.port.receiving
 unfound_receives queue bridge = unfound_by (look_answer queue bridge) queue (port_after_look queue.port bridge)

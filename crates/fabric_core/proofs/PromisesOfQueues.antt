@@ -11,11 +11,11 @@ use Rattle.pair_model.specs.RingWrites.{WindowWrite, entry_write}
 use Rattle.bridge_pair.specs.Bridge.{Bridge, flight_of, pages_of, with_pages}
 use Rattle.bridge_pair.specs.Pages.{PagesGrow}
 use Rattle.fabric_rule.specs.Parts.{QueuePart, plain_bridge}
-use Rattle.frame_ring.specs.Calls.{begin_answer as port_begin_answer, down_answer, down_begun, frame_begun, where_begun}
+use Rattle.frame_ring.specs.Calls.{port_begin_answer, port_down_answer, down_begun, port_frame_begun, where_begun}
 use Rattle.frame_ring.specs.Port.{Left, PortState, unused_of, writes_left}
 use Rattle.frame_ring.specs.PortCalls.{IsGrown, IsGrownBoth}
-use Rattle.frame_ring.specs.PortView.{HasPages, HasPagesIn, IsLeftReady, IsReady, with_room}
-use Rattle.queue_pair.specs.Gates.{after_begin, after_qpdown, closed_where_begun, port_unless, qpdown_answer, sender_refusal}
+use Rattle.frame_ring.specs.PortView.{HasPortPages, HasPagesIn, IsLeftReady, IsPortReady, with_room}
+use Rattle.queue_pair.specs.Gates.{queue_after_begin, after_qpdown, closed_where_begun, port_unless, qpdown_answer, sender_refusal}
 use Rattle.queue_pair.specs.Queue.{QueueState}
 use Rattle.queue_pair.specs.declared.BeginAnswer.{BeginAnswer}
 use Rattle.queue_pair.specs.declared.BeginAnswer.TheVariants.{Ok as IsBegun}
@@ -26,14 +26,14 @@ use Rattle.fabric_core.specs.Parts.{KeepsPort}
 Stay : List ℕ → List ℕ → Type 0
 Stay old new = (page : ℕ) → Contains old page → Contains new page
 
-still_ready : (plan : PairPlan) (side : Side) (old new : List ℕ) (write : Option WindowWrite) → ((page : ℕ) → Contains old page → Contains new page) → IsReady plan side old write
-    → IsReady plan side new write
+still_ready : (plan : PairPlan) (side : Side) (old new : List ℕ) (write : Option WindowWrite) → ((page : ℕ) → Contains old page → Contains new page) → IsPortReady plan side old write
+    → IsPortReady plan side new write
 still_ready plan side old new None stay ready = tt
 still_ready plan side old new (Some write) stay ready = λ reach page touches. stay page (ready reach page touches)
 
 -- A port keeps its promised pages where no page that was promised in either memory is lost.
 pub pages_stay : (port : PortState) (own peer own_new peer_new : List ℕ) → ((page : ℕ) → Contains own page → Contains own_new page) → ((page : ℕ) → Contains peer page → Contains peer_new page)
-    → HasPages port own peer → HasPages port own_new peer_new
+    → HasPortPages port own peer → HasPortPages port own_new peer_new
 pages_stay port own peer own_new peer_new stay peer_stay ready =
     record {
       writes =
@@ -270,27 +270,27 @@ closed_port (IsBegun number) queue = refl
 closed_port answer queue = refl
 
 -- A begin leaves the port of a queue with the plan, side and queue that it had.
-pub begin_place : (queue : QueueState) (bridge : Bridge) (frame : List ℕ) → SamePlace (after_begin queue bridge frame).port queue.port
+pub begin_place : (queue : QueueState) (bridge : Bridge) (frame : List ℕ) → SamePlace (queue_after_begin queue bridge frame).port queue.port
 begin_place queue bridge frame =
-    begun_place queue (frame_begun queue.port frame) (sender_refusal queue bridge) (port_begin_answer queue.port bridge (length frame)) (record { same_plan = refl; same_side = refl; same_queue = refl })
+    begun_place queue (port_frame_begun queue.port frame) (sender_refusal queue bridge) (port_begin_answer queue.port bridge (length frame)) (record { same_plan = refl; same_side = refl; same_queue = refl })
 
 -- A begin leaves the receiver of a queue's port as it was.
-pub begin_receives : (queue : QueueState) (bridge : Bridge) (frame : List ℕ) → (after_begin queue bridge frame).port.receiving ≡ queue.port.receiving
-begin_receives queue bridge frame = begun_receives queue (frame_begun queue.port frame) (sender_refusal queue bridge) (port_begin_answer queue.port bridge (length frame)) refl
+pub begin_receives : (queue : QueueState) (bridge : Bridge) (frame : List ℕ) → (queue_after_begin queue bridge frame).port.receiving ≡ queue.port.receiving
+begin_receives queue bridge frame = begun_receives queue (port_frame_begun queue.port frame) (sender_refusal queue bridge) (port_begin_answer queue.port bridge (length frame)) refl
 
 down_unless : QueueState → Bridge → QueueState
-down_unless queue bridge = port_unless (sender_refusal queue bridge) queue (where_begun queue.port (down_begun queue.port) (down_answer queue.port bridge))
+down_unless queue bridge = port_unless (sender_refusal queue bridge) queue (where_begun queue.port (down_begun queue.port) (port_down_answer queue.port bridge))
 
 -- A going down leaves the port of a queue with the plan, side and queue that it had.
 pub down_place : (queue : QueueState) (bridge : Bridge) → SamePlace (after_qpdown queue bridge).port queue.port
 unfolding down_unless
 down_place queue bridge =
     subst (λ port. SamePlace port queue.port) (sym (closed_port (qpdown_answer queue bridge) (down_unless queue bridge)))
-    (begun_place queue (down_begun queue.port) (sender_refusal queue bridge) (down_answer queue.port bridge) (record { same_plan = refl; same_side = refl; same_queue = refl }))
+    (begun_place queue (down_begun queue.port) (sender_refusal queue bridge) (port_down_answer queue.port bridge) (record { same_plan = refl; same_side = refl; same_queue = refl }))
 
 -- A going down leaves the receiver of a queue's port as it was.
 pub down_receives : (queue : QueueState) (bridge : Bridge) → (after_qpdown queue bridge).port.receiving ≡ queue.port.receiving
 unfolding down_unless
 down_receives queue bridge =
     ap (λ (port : PortState). port.receiving) (closed_port (qpdown_answer queue bridge) (down_unless queue bridge))
-    ∙ begun_receives queue (down_begun queue.port) (sender_refusal queue bridge) (down_answer queue.port bridge) refl
+    ∙ begun_receives queue (down_begun queue.port) (sender_refusal queue bridge) (port_down_answer queue.port bridge) refl

@@ -6,7 +6,7 @@ use Rattle.step_kinds.specs.declared.plan.Counters.{Counters}
 use Rattle.lane_model.specs.Tests.{is_copying}
 use Rattle.pair_model.specs.Device.{Flow}
 use Rattle.bridge_pair.specs.Bridge.{Bridge, flight_of}
-use Rattle.frame_ring.specs.Calls.{after_copy}
+use Rattle.frame_ring.specs.Calls.{port_after_copy}
 use Rattle.frame_ring.specs.Port.{PortState, unused_of}
 use Rattle.frame_ring.specs.PortView.{HasPagesIn}
 use Rattle.frame_ring.proofs.Facade.{unused_copied}
@@ -49,10 +49,10 @@ same_room : (spare unused unused_after : ℕ) → unused_after ≡ unused → sp
 same_room spare unused unused_after e = omega (arith, e)
 
 -- A copy, which leaves the bridge as it is, keeps all that was promised, where its port has its pages after it.
-pub keeps_copy : (port : PortState) (bridge : Bridge) → HasPagesIn (after_copy port bridge) bridge → KeepsPort port (after_copy port bridge) bridge bridge
+pub keeps_copy : (port : PortState) (bridge : Bridge) → HasPagesIn (port_after_copy port bridge) bridge → KeepsPort port (port_after_copy port bridge) bridge bridge
 keeps_copy port bridge ready =
-    keeps_exact port (after_copy port bridge) bridge bridge (copy_place port bridge) refl (λ any. refl)
-    (same_room (flight_of bridge port.side).spare (unused_of port) (unused_of (after_copy port bridge)) (unused_copied port bridge))
+    keeps_exact port (port_after_copy port bridge) bridge bridge (copy_place port bridge) refl (λ any. refl)
+    (same_room (flight_of bridge port.side).spare (unused_of port) (unused_of (port_after_copy port bridge)) (unused_copied port bridge))
     refl ready
 
 -- If a begin is refused, no frame is counted as accepted, and the part of the queue is as it was.

@@ -34,8 +34,8 @@ use Rattle.bridge_pair.specs.Calls.{after_land, after_landed, landing}
 use Rattle.bridge_pair.specs.Ends.{label_landed}
 use Rattle.bridge_pair.specs.Flights.{Flying, flying_order}
 use Rattle.bridge_pair.specs.Links.{after_step, cleaned, dropped}
-use Rattle.hand_shake.specs.Checks.{check_answer, after_answer as after_check_answer}
-use Rattle.hand_shake.specs.Offers.{offer_answer, after_answer as after_offer_answer}
+use Rattle.hand_shake.specs.Checks.{check_answer, after_check_answer}
+use Rattle.hand_shake.specs.Offers.{offer_answer, after_offer_answer}
 use Rattle.hand_shake.specs.Queues.{after_join_answer, after_ready_answer, join_answer, ready_answer}
 use Rattle.hand_shake.specs.declared.CheckAnswer.{CheckAnswer}
 use Rattle.hand_shake.specs.declared.CheckAnswer.TheVariants as check
@@ -45,7 +45,7 @@ use Rattle.hand_shake.specs.declared.OfferAnswer.{OfferAnswer}
 use Rattle.hand_shake.specs.declared.OfferAnswer.TheVariants as offer
 use Rattle.hand_shake.specs.declared.ReadyAnswer.{ReadyAnswer}
 use Rattle.hand_shake.specs.declared.ReadyAnswer.TheVariants as ready
-use Rattle.frame_ring.specs.Calls.{after_look, begin_answer as port_begin_answer, down_answer, down_begun, first_label, first_posted, frame_begun, free_answer, gathered_next, last_got, let_go, more_entries, more_parts, next_begun, part_copied, rest_of, where_begun}
+use Rattle.frame_ring.specs.Calls.{port_after_look, port_begin_answer, port_down_answer, down_begun, first_label, first_posted, port_frame_begun, free_answer, gathered_next, last_got, let_go, more_entries, more_parts, port_next_begun, part_copied, rest_of, where_begun}
 use Rattle.frame_ring.specs.Port.{PortState, Sending, with_receiving, with_sending}
 use Rattle.frame_ring.specs.PortView.{flags_cleared, index_posted}
 use Rattle.queue_pair.specs.Gates.{after_look_answer, answer_unless, begin_answer, closed_where_begun, look_answer, port_unless, sender_refusal}
@@ -195,8 +195,8 @@ record IsIdle (next sending : Sending) : Type 0 where
   none : sending.todo ≡ []
 
 is_idle : (queue begun told : ℕ) (entry : Entry) (todo : List Label) (waiting : List Entry)
-    → first_label (next_begun queue (record { begun = begun; told = told; entry = entry; todo = todo; waiting = waiting })).todo ≡ None
-    → IsIdle (next_begun queue (record { begun = begun; told = told; entry = entry; todo = todo; waiting = waiting })) (record { begun = begun; told = told; entry = entry; todo = todo; waiting = waiting })
+    → first_label (port_next_begun queue (record { begun = begun; told = told; entry = entry; todo = todo; waiting = waiting })).todo ≡ None
+    → IsIdle (port_next_begun queue (record { begun = begun; told = told; entry = entry; todo = todo; waiting = waiting })) (record { begun = begun; told = told; entry = entry; todo = todo; waiting = waiting })
 is_idle queue begun told entry [] [] e = record { same = refl; none = refl }
 is_idle queue begun told entry [] (first ∷ others) e = absurd (some_write (label_of queue first) (data_of begun first) (EntryFlag begun) (QueueBell ∷ []) e)
 is_idle queue begun told entry (label ∷ labels) waiting e = absurd (none-some label (sym e))
@@ -219,7 +219,7 @@ module _ (pair : PairState) (side : Side) (queue : ℕ) where
       with_bridge (with_queue pair side queue (record Own { queue = with_port Own.queue (with_sending Own.queue.port (let_go (record Sends { todo = rest }))) }))
       (first_posted pair.bridge Own.queue.port.side Sends.entry todo)
 
-  post_kept : IsIdle (next_begun Own.queue.port.queue Sends) Sends → PostedFrom (next_begun Own.queue.port.queue Sends) ≡ queue_changed pair side queue entry_let_go
+  post_kept : IsIdle (port_next_begun Own.queue.port.queue Sends) Sends → PostedFrom (port_next_begun Own.queue.port.queue Sends) ≡ queue_changed pair side queue entry_let_go
   post_kept idle = ap PostedFrom idle.same ∙ ap (λ todo. PostedOf todo (rest_of todo)) idle.none ∙ ap (λ rest. PostedOf [] rest) (sym idle.none)
 
 -- Landing
@@ -294,12 +294,12 @@ refused_move devs pair (Join p side queue) e = join_kept pair side queue (join_a
 refused_move devs pair (Begin p side queue frame) e =
     let part = queue_of pair side queue in
     queue_kept pair side queue _
-    (begin_kept pair.bridge.link.session part (frame_begun part.queue.port frame) (sender_refusal part.queue pair.bridge) (port_begin_answer part.queue.port pair.bridge (length frame)) e)
+    (begin_kept pair.bridge.link.session part (port_frame_begun part.queue.port frame) (sender_refusal part.queue pair.bridge) (port_begin_answer part.queue.port pair.bridge (length frame)) e)
 refused_move devs pair (QpDown p side queue) e =
     let part = queue_of pair side queue in
     queue_kept pair side queue _
     (ap (λ (own : QueueState). record part { queue = own })
-    (down_kept part.queue (down_begun part.queue.port) (sender_refusal part.queue pair.bridge) (down_answer part.queue.port pair.bridge) e))
+    (down_kept part.queue (down_begun part.queue.port) (sender_refusal part.queue pair.bridge) (port_down_answer part.queue.port pair.bridge) e))
 refused_move devs pair (Xbegin p side queue dev dst kind payload) e =
     let part = queue_of pair side queue in
     let frame = ethernet_frame dst (dev_plan devs dev).address kind payload in
@@ -309,12 +309,12 @@ refused_move devs pair (Post p side queue) e =
     let sending = (queue_of pair side queue).queue.port.sending in
     post_kept pair side queue
     (is_idle (queue_of pair side queue).queue.port.queue sending.begun sending.told sending.entry sending.todo sending.waiting
-    (not_posted (first_label (next_begun (queue_of pair side queue).queue.port.queue sending).todo) e))
+    (not_posted (first_label (port_next_begun (queue_of pair side queue).queue.port.queue sending).todo) e))
 refused_move devs pair (Land p side place) e = land_kept pair side place e
 refused_move devs pair (Look p side queue) e =
     let part = queue_of pair side queue in
     queue_kept pair side queue _
-    (ap (λ (own : QueueState). record part { queue = own }) (look_kept part.queue (after_look part.queue.port pair.bridge) (look_answer part.queue pair.bridge) e))
+    (ap (λ (own : QueueState). record part { queue = own }) (look_kept part.queue (port_after_look part.queue.port pair.bridge) (look_answer part.queue pair.bridge) e))
 refused_move devs pair (Copy p side queue) e =
     let part = queue_of pair side queue in
     let receiving = part.queue.port.receiving in

@@ -17,7 +17,7 @@ use Rattle.frame_ring.specs.Port.{PortState, Receiving, Sending}
 use Rattle.frame_ring.specs.Same.{IsSamePort}
 use Rattle.fabric_rule.specs.InPlace.{SendingEnd, last_entry}
 use Rattle.fabric_rule.specs.Parts.{PairState, QueuePart, queue_of, queues_of}
-use Rattle.fabric_rule.specs.StandsFor.{PairStands, QueueStands, QueueView, SideStandsIn, has_forgotten, is_left, port_for, sending_for, view_of}
+use Rattle.fabric_rule.specs.StandsFor.{PairStands, QueueStands, QueueView, SideStandsIn, has_link_forgotten, is_left, port_for, sending_for, view_of}
 use Rattle.fabric_core.specs.Fabric.{FabricState, StandsFor, bare_plan, pair_of, plan_kept}
 use Rattle.fabric_core.specs.InFlight.{SameKeys}
 use Rattle.fabric_core.specs.LogClauses.{HasMade}
@@ -167,9 +167,9 @@ module _ (devs : List DevPlan) (plan : PairPlan) (k : ℕ) (site : Site) (pair o
         in_flight = its.in_flight;
         all_queues = theirs.all_queues;
         queues = λ queue below.
-            queue_stands devs plan k side queue (view_of site.pair side queue) (has_forgotten site.pair.link side) (view_of own.pair side queue)
+            queue_stands devs plan k side queue (view_of site.pair side queue) (has_link_forgotten site.pair.link side) (view_of own.pair side queue)
             (queue_of pair side queue) (queue_of other side queue) ((same.queues side).each queue (subst (λ n. queue < n) (sym its.all_queues) below)) (its.queues queue below)
-            (subst (λ (link : Link). QueueStands devs plan k side queue (has_forgotten link side) (view_of own.pair side queue) (queue_of other side queue)) (same_link own same owns) (theirs.queues queue below));
+            (subst (λ (link : Link). QueueStands devs plan k side queue (has_link_forgotten link side) (view_of own.pair side queue) (queue_of other side queue)) (same_link own same owns) (theirs.queues queue below));
       }
 
   -- so does a pair
@@ -188,7 +188,7 @@ module _ (devs : List DevPlan) (plan : PairPlan) (k : ℕ) (site : Site) (pair o
               all = its.all_queues ∙ sym theirs.all_queues;
               each = λ queue below.
                   let among = subst (λ n. queue < n) its.all_queues below in
-                  same_part devs plan k side queue (view_of site.pair side queue) (has_forgotten site.pair.link side) (queue_of pair side queue) (queue_of other side queue)
+                  same_part devs plan k side queue (view_of site.pair side queue) (has_link_forgotten site.pair.link side) (queue_of pair side queue) (queue_of other side queue)
                   (its.queues queue among) (theirs.queues queue among);
             };
       }

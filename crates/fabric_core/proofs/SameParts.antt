@@ -10,7 +10,7 @@ use Rattle.pair_model.specs.Both.{Both}
 use Rattle.pair_model.specs.Link.{Link}
 use Rattle.pair_model.specs.Plans.{side_plan}
 use Rattle.bridge_regs.specs.Doorbell.{Doorbell}
-use Rattle.bridge_pair.specs.Bridge.{Bridge, flight_of, bytes_of}
+use Rattle.bridge_pair.specs.Bridge.{Bridge, flight_of, bridge_bytes_of}
 use Rattle.bridge_pair.specs.Flights.{Flying}
 use Rattle.bridge_pair.specs.Same.{IsSameBridge}
 use Rattle.queue_pair.specs.Same.{IsSameQueue}
@@ -18,7 +18,7 @@ use Rattle.step_kinds.specs.declared.plan.Counters.{Counters}
 use Rattle.bridge_pair.specs.declared.book.SideBook.{SideBook}
 use Rattle.fabric_rule.specs.Parts.{PairState, QueuePart, SessionCount, count_in, no_queue, plain_bridge, queues_of}
 use Rattle.fabric_core.specs.Fabric.{no_state}
-use Rattle.fabric_core.specs.Parts.{IsWhole}
+use Rattle.fabric_core.specs.Parts.{IsPairWhole}
 use Rattle.fabric_core.specs.Same.{AreOfOneSide, AreSameCounts, AreSameParts, AreSameWhereCounted, HasSameQueues, IsSamePair, IsSamePart, plan_at}
 use Rattle.fabric_core.specs.Sessions.{AreApart, IsNowhere, IsPlaceOf, count_seen, no_count}
 use Rattle.fabric_core.specs.declared.counts.OfSession.{OfSession}
@@ -153,7 +153,7 @@ all_same one other value tests = (
 -- Queues
 
 -- the queues of two pairs of one plan stand at the same places
-pub of_one_side : (pair other : PairState) → IsWhole pair → IsWhole other → pair.bridge.plan ≡ other.bridge.plan → (side : Side) → AreOfOneSide (queues_of pair side) (queues_of other side)
+pub of_one_side : (pair other : PairState) → IsPairWhole pair → IsPairWhole other → pair.bridge.plan ≡ other.bridge.plan → (side : Side) → AreOfOneSide (queues_of pair side) (queues_of other side)
 of_one_side pair other whole others plans side =
     record {
       all = whole.all_queues side ∙ ap (λ (plan : PairPlan). (side_plan plan side).queues) plans ∙ sym (others.all_queues side);
@@ -182,15 +182,15 @@ bare plan link books pads bells a b from_a from_b =
 -- of two bridges of one plan with the same parts nothing but promises differs
 pub plain_same : (one other : Bridge) → one.plan ≡ other.plan → IsSameBridge one other → plain_bridge one ≡ plain_bridge other
 plain_same one other plans same =
-    ap (λ (plan : PairPlan). bare plan one.link one.books one.pads one.bells (bytes_of one A) (bytes_of one B) (flight_of one A).writes (flight_of one B).writes) plans
-    ∙ ap (λ (link : Link). bare other.plan link one.books one.pads one.bells (bytes_of one A) (bytes_of one B) (flight_of one A).writes (flight_of one B).writes) same.link
-    ∙ ap (λ (books : Both SideBook). bare other.plan other.link books one.pads one.bells (bytes_of one A) (bytes_of one B) (flight_of one A).writes (flight_of one B).writes) same.books
-    ∙ ap (λ (pads : Both (List ℕ)). bare other.plan other.link other.books pads one.bells (bytes_of one A) (bytes_of one B) (flight_of one A).writes (flight_of one B).writes) same.pads
-    ∙ ap (λ (bells : Both Doorbell). bare other.plan other.link other.books other.pads bells (bytes_of one A) (bytes_of one B) (flight_of one A).writes (flight_of one B).writes) same.bells
-    ∙ ap (λ (a : List ℕ). bare other.plan other.link other.books other.pads other.bells a (bytes_of one B) (flight_of one A).writes (flight_of one B).writes) (same.bytes A)
-    ∙ ap (λ (b : List ℕ). bare other.plan other.link other.books other.pads other.bells (bytes_of other A) b (flight_of one A).writes (flight_of one B).writes) (same.bytes B)
-    ∙ ap (λ (from_a : List Flying). bare other.plan other.link other.books other.pads other.bells (bytes_of other A) (bytes_of other B) from_a (flight_of one B).writes) (same.writes A)
-    ∙ ap (λ (from_b : List Flying). bare other.plan other.link other.books other.pads other.bells (bytes_of other A) (bytes_of other B) (flight_of other A).writes from_b) (same.writes B)
+    ap (λ (plan : PairPlan). bare plan one.link one.books one.pads one.bells (bridge_bytes_of one A) (bridge_bytes_of one B) (flight_of one A).writes (flight_of one B).writes) plans
+    ∙ ap (λ (link : Link). bare other.plan link one.books one.pads one.bells (bridge_bytes_of one A) (bridge_bytes_of one B) (flight_of one A).writes (flight_of one B).writes) same.link
+    ∙ ap (λ (books : Both SideBook). bare other.plan other.link books one.pads one.bells (bridge_bytes_of one A) (bridge_bytes_of one B) (flight_of one A).writes (flight_of one B).writes) same.books
+    ∙ ap (λ (pads : Both (List ℕ)). bare other.plan other.link other.books pads one.bells (bridge_bytes_of one A) (bridge_bytes_of one B) (flight_of one A).writes (flight_of one B).writes) same.pads
+    ∙ ap (λ (bells : Both Doorbell). bare other.plan other.link other.books other.pads bells (bridge_bytes_of one A) (bridge_bytes_of one B) (flight_of one A).writes (flight_of one B).writes) same.bells
+    ∙ ap (λ (a : List ℕ). bare other.plan other.link other.books other.pads other.bells a (bridge_bytes_of one B) (flight_of one A).writes (flight_of one B).writes) (same.bytes A)
+    ∙ ap (λ (b : List ℕ). bare other.plan other.link other.books other.pads other.bells (bridge_bytes_of other A) b (flight_of one A).writes (flight_of one B).writes) (same.bytes B)
+    ∙ ap (λ (from_a : List Flying). bare other.plan other.link other.books other.pads other.bells (bridge_bytes_of other A) (bridge_bytes_of other B) from_a (flight_of one B).writes) (same.writes A)
+    ∙ ap (λ (from_b : List Flying). bare other.plan other.link other.books other.pads other.bells (bridge_bytes_of other A) (bridge_bytes_of other B) (flight_of other A).writes from_b) (same.writes B)
 
 -- and where nothing but promises differs, the parts are the same
 pub same_by_plain : (one other : Bridge) → plain_bridge one ≡ plain_bridge other → IsSameBridge one other
@@ -204,9 +204,9 @@ same_by_plain one other same =
       writes = same_writes one other same;
     }
   where
-    same_bytes : (one other : Bridge) → plain_bridge one ≡ plain_bridge other → (side : Side) → bytes_of one side ≡ bytes_of other side
-    same_bytes one other same A = ap (λ (bridge : Bridge). bytes_of bridge A) same
-    same_bytes one other same B = ap (λ (bridge : Bridge). bytes_of bridge B) same
+    same_bytes : (one other : Bridge) → plain_bridge one ≡ plain_bridge other → (side : Side) → bridge_bytes_of one side ≡ bridge_bytes_of other side
+    same_bytes one other same A = ap (λ (bridge : Bridge). bridge_bytes_of bridge A) same
+    same_bytes one other same B = ap (λ (bridge : Bridge). bridge_bytes_of bridge B) same
 
     same_writes : (one other : Bridge) → plain_bridge one ≡ plain_bridge other → (side : Side) → (flight_of one side).writes ≡ (flight_of other side).writes
     same_writes one other same A = ap (λ (bridge : Bridge). (flight_of bridge A).writes) same

@@ -11,7 +11,7 @@ use Rattle.step_kinds.specs.declared.plan.DevPlan.{DevPlan}
 use Rattle.pair_model.specs.Plans.{side_plan}
 use Rattle.bridge_pair.specs.Bridge.{Bridge}
 use Rattle.fabric_rule.specs.Parts.{PairState, QueuePart, no_queue, plain_pair, with_bridge}
-use Rattle.fabric_core.specs.Parts.{IsWhole, KeepsPort}
+use Rattle.fabric_core.specs.Parts.{IsPairWhole, KeepsPort}
 use Rattle.fabric_core.specs.Promises.{HasMorePages}
 use Rattle.fabric_core.specs.StepCalls.{HasMadeAt, HasMadeOnQueue}
 use Rattle.fabric_core.proofs.TurnsOfPairs.{more_plain, more_promised, turn_promised}
@@ -24,8 +24,8 @@ state_of bridge a b = record { bridge = bridge; queues = record { a = a; b = b }
 -- On the bridge
 
 -- A pair stays whole where a step leaves the turn's bridge, or out of memory the old one, with further pages.
-pub stepped_whole : {E : Type 0} (state : PairState) (new : Bridge) (step : BridgeStep) (result : Result Answer E) → IsWhole state
-    → OnOk result (HasMorePages (bridge_turn state.bridge step).bridge new) → OnErr result (HasMorePages state.bridge new) → IsWhole (with_bridge state new)
+pub stepped_whole : {E : Type 0} (state : PairState) (new : Bridge) (step : BridgeStep) (result : Result Answer E) → IsPairWhole state
+    → OnOk result (HasMorePages (bridge_turn state.bridge step).bridge new) → OnErr result (HasMorePages state.bridge new) → IsPairWhole (with_bridge state new)
 stepped_whole state new step (Ok answer) whole after err = whole_kept state new whole (turn_promised state.bridge new step after)
 stepped_whole state new step (Err e) whole after err = whole_kept state new whole (more_promised state.bridge new err)
 
@@ -48,18 +48,18 @@ abbrev pub sides_of : Bridge → Side → List QueuePart → List QueuePart → 
 sides_of bridge A own peer = state_of bridge own peer
 sides_of bridge B own peer = state_of bridge peer own
 
-each_side_whole : (bridge : Bridge) (side : Side) (own peer : List QueuePart) → IsWhole (sides_of bridge side own peer) → SideIsWhole bridge side own × SideIsWhole bridge (other_side side) peer
+each_side_whole : (bridge : Bridge) (side : Side) (own peer : List QueuePart) → IsPairWhole (sides_of bridge side own peer) → SideIsWhole bridge side own × SideIsWhole bridge (other_side side) peer
 each_side_whole bridge A own peer whole = (side_whole (state_of bridge own peer) A whole, side_whole (state_of bridge own peer) B whole)
 each_side_whole bridge B own peer whole = (side_whole (state_of bridge peer own) B whole, side_whole (state_of bridge peer own) A whole)
 
-whole_of_sides : (bridge : Bridge) (side : Side) (own peer : List QueuePart) → SideIsWhole bridge side own → SideIsWhole bridge (other_side side) peer → IsWhole (sides_of bridge side own peer)
+whole_of_sides : (bridge : Bridge) (side : Side) (own peer : List QueuePart) → SideIsWhole bridge side own → SideIsWhole bridge (other_side side) peer → IsPairWhole (sides_of bridge side own peer)
 whole_of_sides bridge A own peer whole peer_whole = both_whole bridge own peer whole peer_whole
 whole_of_sides bridge B own peer whole peer_whole = both_whole bridge peer own peer_whole whole
 
 -- A pair stays whole through a call of one queue of a side, where the call keeps what was promised.
-pub called : (old new : Bridge) (side : Side) (own peer parts : List QueuePart) (queue : ℕ) → IsWhole (sides_of old side own peer) → queue < (side_plan old.plan side).queues
+pub called : (old new : Bridge) (side : Side) (own peer parts : List QueuePart) (queue : ℕ) → IsPairWhole (sides_of old side own peer) → queue < (side_plan old.plan side).queues
     → parts ≡ set own queue (get_or parts queue no_queue) → KeepsPort (get_or own queue no_queue).queue.port (get_or parts queue no_queue).queue.port old new
-    → IsWhole (sides_of new side parts peer)
+    → IsPairWhole (sides_of new side parts peer)
 called old new side own peer parts queue whole below is keeps =
     let each = each_side_whole old side own peer whole in
     let part = get_or parts queue no_queue in

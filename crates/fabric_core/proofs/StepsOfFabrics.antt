@@ -37,7 +37,7 @@ use Rattle.fabric_rule.specs.StandsFor.{PairStands, SideStandsIn, bridge_for}
 use Rattle.fabric_rule.proofs.Facade.{each_step_stands}
 use Rattle.fabric_core.specs.Fabric.{FabricState, StandsFor, bare_plan, may_want_memory, no_state, pair_of, plain, plan_kept}
 use Rattle.fabric_core.specs.Fabrics.{IsFabric, fabric_seen}
-use Rattle.fabric_core.specs.Parts.{Agrees, CanMake}
+use Rattle.fabric_core.specs.Parts.{BridgeAgrees, CanMake}
 use Rattle.fabric_core.specs.declared.fabric.Fabric.TheInside.{Inside}
 use Rattle.fabric_core.proofs.RefusedMoves.{refused_left}
 use Rattle.fabric_core.specs.Lawful.{IsLawful}
@@ -173,7 +173,7 @@ module _ (plan : Plan) (steps : List Step) (k : ℕ) (declared : IsDeclared plan
       (up_means_agreement plan (memory_of plan) steps k side (has_sides plan declared) among
       (are_ordinary plan k is (steps ++ Check k side ∷ []) (all_last (IsPermitted plan) steps (Check k side) permitted among)) (check_made side up)).size_fits
 
-  pub agrees : Agrees state.bridge
+  pub agrees : BridgeAgrees state.bridge
   agrees =
       let plan_is = plan_of_pair plan.devs (pair_plan plan k) k (site_of plan k steps) state stands in
       record {
@@ -187,7 +187,7 @@ queue_there : (plan : Plan) (k : ℕ) (side : Side) (queue : ℕ) (bridge : Brid
 queue_there plan k side queue bridge is may = subst (λ (pair : PairPlan). queue < (side_plan pair side).queues) (sym is) may.among
 
 -- A permitted step finds all that it needs of its bridge, where queues are joined and sides come up only if all fits.
-pub can_make : (plan : Plan) (step : Step) (bridge : Bridge) → IsDeclared plan → bridge.plan ≡ pair_plan plan (subject_of step) → Agrees bridge → IsPermitted plan step → CanMake plan.devs bridge step
+pub can_make : (plan : Plan) (step : Step) (bridge : Bridge) → IsDeclared plan → bridge.plan ≡ pair_plan plan (subject_of step) → BridgeAgrees bridge → IsPermitted plan step → CanMake plan.devs bridge step
 can_make plan (Check p side) bridge declared is agree may = agree.up side
 can_make plan (Ready p side queue) bridge declared is agree may = queue_there plan p side queue bridge is may
 can_make plan (Join p side queue) bridge declared is agree may = queue_there plan p side queue bridge is may
@@ -423,7 +423,7 @@ pub from_some : (kept : Inside) → MadeSome (plan_kept (fabric_seen kept)) (fab
 from_some kept some = record { declared = some.made.declared; steps = some.steps; permitted = some.made.permitted; stands = some.made.stands }
 
 -- the pair that a step is made on, as it is
-pub pair_agrees : (fabric : FabricState) (k : ℕ) → MadeSome (plan_kept fabric) fabric → k < length fabric.pairs → Agrees (pair_of fabric k).bridge
+pub pair_agrees : (fabric : FabricState) (k : ℕ) → MadeSome (plan_kept fabric) fabric → k < length fabric.pairs → BridgeAgrees (pair_of fabric k).bridge
 pair_agrees fabric k some below =
     agrees (plan_kept fabric) some.steps k some.made.declared some.made.permitted (omega (arith, below, length-map fabric.pairs (λ (pair : PairState). pair.bridge.plan))) (pair_of fabric k)
     (some.made.stands.pairs k (omega (arith, below, length-map fabric.pairs (λ (pair : PairState). pair.bridge.plan))))

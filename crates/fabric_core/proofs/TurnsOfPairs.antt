@@ -19,8 +19,8 @@ use Rattle.bridge_pair.specs.Laws.{KeepsPromises}
 use Rattle.bridge_pair.specs.Writes.{PostedWrite, memory_write, pad_write}
 use Rattle.bridge_pair.specs.declared.book.SideBook.{SideBook}
 use Rattle.bridge_pair.proofs.Facade.{bytes_keep, keeps_all, keeps_both, landing_keeps_promises, link_steps_keep_promises, own_writes_keep_promises}
-use Rattle.hand_shake.specs.Checks.{after_answer as after_check_answer, check_answer, fresh_rings}
-use Rattle.hand_shake.specs.Offers.{after_answer as after_offer_answer, next_offer, offer_answer, pad_value, with_posted}
+use Rattle.hand_shake.specs.Checks.{after_check_answer, check_answer, fresh_rings}
+use Rattle.hand_shake.specs.Offers.{after_offer_answer, next_offer, offer_answer, pad_value, with_posted}
 use Rattle.hand_shake.specs.Queues.{after_join_answer, after_ready_answer, join_answer, ready_answer}
 use Rattle.hand_shake.specs.declared.CheckAnswer.{CheckAnswer}
 use Rattle.hand_shake.specs.declared.CheckAnswer.TheVariants.{Up}

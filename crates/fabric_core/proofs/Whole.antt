@@ -13,7 +13,7 @@ use Rattle.bridge_pair.specs.Bridge.{Bridge, flight_of, pages_of}
 use Rattle.fabric_rule.specs.Parts.{PairState, QueuePart, no_queue, queue_of, queues_of, with_bridge}
 use Rattle.frame_ring.specs.Port.{PortState, fresh_port, unused_of}
 use Rattle.frame_ring.specs.PortView.{HasPagesIn}
-use Rattle.fabric_core.specs.Parts.{IsInPlace, IsWhole, KeepsPort, all_unused}
+use Rattle.fabric_core.specs.Parts.{IsInPlace, IsPairWhole, KeepsPort, all_unused}
 use Rattle.fabric_core.specs.Promises.{KeepsPromised}
 use Rattle.fabric_core.proofs.PromisesOfQueues.{pages_stay}
 use Rattle.fabric_rule.specs.Moves.{forgotten_queue}
@@ -46,7 +46,7 @@ by_side P a b A = a
 by_side P a b B = b
 
 -- A pair is whole, its queues in place with just the room that they haven't used, where both of its sides are.
-pub both_whole : (bridge : Bridge) (a b : List QueuePart) → SideIsWhole bridge A a → SideIsWhole bridge B b → IsWhole (record { bridge = bridge; queues = record { a = a; b = b } })
+pub both_whole : (bridge : Bridge) (a b : List QueuePart) → SideIsWhole bridge A a → SideIsWhole bridge B b → IsPairWhole (record { bridge = bridge; queues = record { a = a; b = b } })
 both_whole bridge a b whole_a whole_b =
     let state : PairState = record { bridge = bridge; queues = record { a = a; b = b } } in
     record {
@@ -56,7 +56,7 @@ both_whole bridge a b whole_a whole_b =
     }
 
 -- Each side of a whole pair is whole.
-pub side_whole : (state : PairState) (side : Side) → IsWhole state → SideIsWhole state.bridge side (queues_of state side)
+pub side_whole : (state : PairState) (side : Side) → IsPairWhole state → SideIsWhole state.bridge side (queues_of state side)
 side_whole state side whole = record { all_queues = whole.all_queues side; queues = whole.queues side; room = whole.room side }
 
 -- A side that has the same room, on a bridge whose pages stay
@@ -73,7 +73,7 @@ side_kept old new side parts plan stay same whole =
     }
 
 -- A pair stays whole with another bridge that keeps the plan, all promised pages and each side's room.
-pub whole_kept : (state : PairState) (new : Bridge) → IsWhole state → KeepsPromised state.bridge new → IsWhole (with_bridge state new)
+pub whole_kept : (state : PairState) (new : Bridge) → IsPairWhole state → KeepsPromised state.bridge new → IsPairWhole (with_bridge state new)
 whole_kept state new whole keeps =
     both_whole new state.queues.a state.queues.b (side_kept state.bridge new A state.queues.a keeps.plan keeps.pages (keeps.spare A) (side_whole state A whole))
     (side_kept state.bridge new B state.queues.b keeps.plan keeps.pages (keeps.spare B) (side_whole state B whole))

@@ -70,13 +70,13 @@ pub record IsInPlace (bridge : Bridge) (side : Side) (queue : ℕ) (part : Queue
 
 -- What is so of every pair: each side has all its queues, and room for just what their ports were promised and haven't
 -- used.
-pub record IsWhole (state : PairState) : Type 0 where
+pub record IsPairWhole (state : PairState) : Type 0 where
   pub all_queues : (side : Side) → length (queues_of state side) ≡ (side_plan state.bridge.plan side).queues
   pub queues : (side : Side) (queue : ℕ) → queue < (side_plan state.bridge.plan side).queues → IsInPlace state.bridge side queue (queue_of state side queue)
   pub room : (side : Side) → (flight_of state.bridge side).spare ≡ all_unused (queues_of state side)
 
 -- a queue is joined on a side only if its rings fit, and a side that would come up has windows that fit
-pub record Agrees (bridge : Bridge) : Type 0 where
+pub record BridgeAgrees (bridge : Bridge) : Type 0 where
   pub joined : (side : Side) (queue : ℕ) → has_bit (book_of bridge side).joined queue ≡ true → FitsRings bridge.plan
   pub up : (side : Side) → check_answer bridge side ≡ Up → WindowsFit bridge.plan side
 

@@ -2,7 +2,7 @@
 
 ghost use Rattle.std.specs.Prelude.{IfOk, IsErr, OnErr, OnOk, bit_or, length, option_map, slice_get, ◌+◌, ◌<◌, ◌≡◌, ◌≤◌, true};
 ghost use Rattle.plan_numbers.specs.Memories.{memory_size};
-ghost use Rattle.bridge_pair.specs.Bridge.{bells_of, bytes_of, flight_of, pages_of, with_bells};
+ghost use Rattle.bridge_pair.specs.Bridge.{bells_of, bridge_bytes_of, flight_of, pages_of, with_bells};
 ghost use Rattle.bridge_pair.specs.Calls.{HasPages};
 ghost use Rattle.bridge_pair.specs.Flights.{Flying, Translates, arrival_of};
 ghost use Rattle.bridge_pair.specs.Links.{after_train};
@@ -176,7 +176,7 @@ fn shown_memory(
 ) -> Result<Answer, AllocError>
     requires within { at + len ≤ memory_size pair.now.plan side }
     requires few { len ≤ 64 }
-    ensures { IfOk result (λ given. given ≡ answer.Mem (bytes_at at len (bytes_of pair.now side))) }
+    ensures { IfOk result (λ given. given ≡ answer.Mem (bytes_at at len (bridge_bytes_of pair.now side))) }
 {
     pair.law();
     let mut bytes = Vec::new(alloc);

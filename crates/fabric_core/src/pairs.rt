@@ -3,7 +3,7 @@
 ghost use Rattle.std.specs.Prelude.{IfOk, IsTrue, List, OnErr, OnOk, length, map, slice_index_or, slice_set, true, ◌++◌, ◌<◌, ◌↔◌, ◌≡◌};
 ghost use Rattle.bridge_pair.specs.Bridge.{flight_of, pages_of};
 ghost use Rattle.fabric_core.specs.InFlight.{pair_key, pair_key_without};
-ghost use Rattle.fabric_core.specs.Parts.{Agrees, AreAlone, AreFreshQueues, AreLimitsOn, CanForget, CanMake, CanTurnQueue, HasOtherRoom};
+ghost use Rattle.fabric_core.specs.Parts.{BridgeAgrees, AreAlone, AreFreshQueues, AreLimitsOn, CanForget, CanMake, CanTurnQueue, HasOtherRoom};
 ghost use Rattle.fabric_core.specs.Promises.{CanTurn};
 ghost use Rattle.fabric_core.specs.StepCalls.{HasMadeAt, HasMadeOnQueue, HasMadeStep};
 ghost use Rattle.fabric_core.specs.Same.{AreOfOneSide, AreSameParts, HasSameQueues, IsSamePair, LandsAsPair};
@@ -72,7 +72,7 @@ impl PairBox {
     /// nothing else changes.
     #[inline(always)]
     pub fn make(&mut self, devs: &[DevPlan], step: &Step) -> Result<Answer, AllocError>
-        requires agrees { Agrees self.old.bridge }
+        requires agrees { BridgeAgrees self.old.bridge }
         requires can { CanMake devs.now self.old.bridge step.now }
         ensures { HasMadeStep devs.now step.now self.old self.new result }
     {
@@ -106,7 +106,7 @@ impl PairBox {
         devs: &[DevPlan],
         step: QueueStep,
     ) -> Result<Answer, AllocError>
-        requires agrees { Agrees self.old.bridge }
+        requires agrees { BridgeAgrees self.old.bridge }
         requires among { queue < (side_plan_of self.old.bridge.plan side).queues }
         requires can { CanTurnQueue devs.now step }
         ensures { HasMadeAt devs.now (OnQueue side queue step.entry) self.old self.new result }

@@ -16,7 +16,7 @@ ghost use Rattle.pair_model.specs.Plans.{side_plan as side_plan_of};
 ghost use Rattle.queue_pair.specs.Gates.{is_joined, look_answer as queue_look_answer};
 ghost use Rattle.queue_pair.specs.declared.LookAnswer.TheVariants.{Ready as QueueReady};
 ghost use Rattle.step_kinds.specs.Limits.{most_count, most_frame_bytes};
-ghost use Rattle.fabric_rule.specs.Turns.{ack_turn, begin_turn, clear_turn, copy_turn, frame_answer, frame_turn, look_turn, post_turn, qpdown_turn, wake_turn};
+ghost use Rattle.fabric_rule.specs.Turns.{ack_turn, begin_turn, clear_turn, copy_turn, device_frame_answer, frame_turn, look_turn, post_turn, qpdown_turn, wake_turn};
 ghost use Rattle.fabric_rule.specs.Moves.{forgotten_queue};
 
 use crate::answers::{
@@ -163,7 +163,7 @@ impl QueueBox {
     fn frame_answer(&self, pair: &Pair, len: u32) -> Answer
         requires ready { CanBegin self.now.queue pair.now }
         requires few { len ≤ most_frame_bytes }
-        ensures { result ≡ frame_answer self.now pair.now len }
+        ensures { result ≡ device_frame_answer self.now pair.now len }
     {
         xbegin_answer(self.flow.stopped(), self.queue.begin_answer(pair, len))
     }

@@ -14,10 +14,10 @@ use Rattle.pair_model.specs.Stores.{Store, bytes_in}
 use Rattle.ledger_model.specs.Ledger.{LanePart, lane_of, side_of, with_lane, with_side_part}
 use Rattle.ledger_model.specs.Memory.{Site}
 use Rattle.plan_numbers.specs.Memories.{memory_size}
-use Rattle.bridge_pair.specs.Bridge.{Bridge, bells_of, bytes_of, pads_of, with_bells, with_bytes, with_memory, with_pads}
+use Rattle.bridge_pair.specs.Bridge.{Bridge, bells_of, bridge_bytes_of, pads_of, with_bells, with_bytes, with_memory, with_pads}
 use Rattle.bridge_regs.specs.Doorbell.{with_pending}
 use Rattle.host_memory.specs.Memory.{written}
-use Rattle.fabric_rule.specs.InPlace.{SendingEnd, receiver_of, sender_of}
+use Rattle.fabric_rule.specs.InPlace.{SendingEnd, fabric_receiver_of, fabric_sender_of}
 use Rattle.fabric_rule.specs.Parts.{PairState, plain_bridge, queues_of, with_bridge}
 use Rattle.fabric_rule.specs.StandsFor.{PairStands, SideStandsIn, bridge_for, bridge_with, sent_of, view_of}
 use Rattle.fabric_rule.proofs.Follows.{by_side, updated_same}
@@ -33,14 +33,14 @@ module _ {devs : List DevPlan} {plan : PairPlan} {k : ℕ} {site : Site} {state 
   abbrev filled : Bridge → Side → List ℕ → Bridge
   filled bridge side bytes = with_memory bridge side (record { bytes = bytes; promised = [] })
 
-  bridge_filled : (side : Side) (store : Store) → bytes_of (bridge_for plan site) side ≡ bytes_in (at_side site.stores side) 0 (memory_size plan side) → IsInside (memory_size plan side) store
-      → filled (plain_bridge state.bridge) side (written store.at store.bytes (bytes_of (plain_bridge state.bridge) side)) ≡ filled (bridge_for plan site) side (bytes_in (store ∷ at_side site.stores side) 0 (memory_size plan side))
+  bridge_filled : (side : Side) (store : Store) → bridge_bytes_of (bridge_for plan site) side ≡ bytes_in (at_side site.stores side) 0 (memory_size plan side) → IsInside (memory_size plan side) store
+      → filled (plain_bridge state.bridge) side (written store.at store.bytes (bridge_bytes_of (plain_bridge state.bridge) side)) ≡ filled (bridge_for plan site) side (bytes_in (store ∷ at_side site.stores side) 0 (memory_size plan side))
   bridge_filled side store same inside =
-      ap (λ (bridge : Bridge). filled bridge side (written store.at store.bytes (bytes_of bridge side))) stands.bridge
+      ap (λ (bridge : Bridge). filled bridge side (written store.at store.bytes (bridge_bytes_of bridge side))) stands.bridge
       ∙ ap (filled (bridge_for plan site) side) (ap (written store.at store.bytes) same ∙ sym (one_stored store (at_side site.stores side) (memory_size plan side) inside))
 
   pub bytes_come : (side : Side) (store : Store) → IsInside (memory_size plan side) store
-      → PairStands devs plan k (record site { stores = stores_with side (store ∷ []) }) (with_bridge state (with_bytes state.bridge side (written store.at store.bytes (bytes_of state.bridge side))))
+      → PairStands devs plan k (record site { stores = stores_with side (store ∷ []) }) (with_bridge state (with_bytes state.bridge side (written store.at store.bytes (bridge_bytes_of state.bridge side))))
   bytes_come A store inside = record { bridge = bridge_filled A store refl inside; link = stands.link; sides = stands.sides }
   bytes_come B store inside = record { bridge = bridge_filled B store refl inside; link = stands.link; sides = stands.sides }
 
@@ -66,19 +66,19 @@ module _ {devs : List DevPlan} {plan : PairPlan} {k : ℕ} {site : Site} {state 
   sees side from queue lane same = side_same devs plan k side _ _ _ _ _ (view_of site.pair side) _ (queues_of state side) same (stands.sides side)
 
   -- one that both its ends see so
-  pub unseen : (from : Side) (queue : ℕ) (lane : LanePart) → sender_of lane ≡ sender_of (lane_of site.pair from queue) → receiver_of lane ≡ receiver_of (lane_of site.pair from queue)
+  pub unseen : (from : Side) (queue : ℕ) (lane : LanePart) → fabric_sender_of lane ≡ fabric_sender_of (lane_of site.pair from queue) → fabric_receiver_of lane ≡ fabric_receiver_of (lane_of site.pair from queue)
       → PairStands devs plan k (record site { pair = with_lane site.pair from queue lane }) state
   unseen A queue lane sends receives =
       record {
         bridge = stands.bridge ∙ ap (λ (sent : ℕ → List Entry). bridge_with plan site.pair.link site.pair.sides (record { a = sent; b = sent_of site.pair.lanes.b }) site.stores) (sym (sent_kept site.pair.lanes.a queue lane (ap (λ (s : SendingEnd). s.sent) sends)));
         link = stands.link;
-        sides = by_side _ (sees A A queue lane (λ other. ap (λ s. record (view_of site.pair A other) { sends = s }) (updated_same sender_of site.pair.lanes.a queue lane sends other)))
-            (sees B A queue lane (λ other. ap (λ r. record (view_of site.pair B other) { receives = r }) (updated_same receiver_of site.pair.lanes.a queue lane receives other)));
+        sides = by_side _ (sees A A queue lane (λ other. ap (λ s. record (view_of site.pair A other) { sends = s }) (updated_same fabric_sender_of site.pair.lanes.a queue lane sends other)))
+            (sees B A queue lane (λ other. ap (λ r. record (view_of site.pair B other) { receives = r }) (updated_same fabric_receiver_of site.pair.lanes.a queue lane receives other)));
       }
   unseen B queue lane sends receives =
       record {
         bridge = stands.bridge ∙ ap (λ (sent : ℕ → List Entry). bridge_with plan site.pair.link site.pair.sides (record { a = sent_of site.pair.lanes.a; b = sent }) site.stores) (sym (sent_kept site.pair.lanes.b queue lane (ap (λ (s : SendingEnd). s.sent) sends)));
         link = stands.link;
-        sides = by_side _ (sees A B queue lane (λ other. ap (λ r. record (view_of site.pair A other) { receives = r }) (updated_same receiver_of site.pair.lanes.b queue lane receives other)))
-            (sees B B queue lane (λ other. ap (λ s. record (view_of site.pair B other) { sends = s }) (updated_same sender_of site.pair.lanes.b queue lane sends other)));
+        sides = by_side _ (sees A B queue lane (λ other. ap (λ r. record (view_of site.pair A other) { receives = r }) (updated_same fabric_receiver_of site.pair.lanes.b queue lane receives other)))
+            (sees B B queue lane (λ other. ap (λ s. record (view_of site.pair B other) { sends = s }) (updated_same fabric_sender_of site.pair.lanes.b queue lane sends other)));
       }

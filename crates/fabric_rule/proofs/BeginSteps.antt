@@ -32,16 +32,16 @@ use Rattle.ledger_model.specs.Outcome.{Outcome, decided}
 use Rattle.ledger_model.specs.Sending.{begin_step, counts_accepted, counts_refused, counts_sent, frame_begun as lane_begun, begun_lane, flow_of, is_busy as is_lane_busy, qpdown_step, xbegin_step}
 use Rattle.plan_numbers.specs.Memories.{memory_size}
 use Rattle.frame_ring.specs.Port.{PortState, with_sending}
-use Rattle.frame_ring.specs.Calls.{begin_answer as port_begin_answer, after_begin as port_after_begin, down_answer, after_down, entries_begun, free_answer, where_begun}
-use Rattle.queue_pair.specs.Gates.{answer_unless, begin_answer, after_begin, qpdown_answer, after_qpdown, closed_where_begun, port_unless}
+use Rattle.frame_ring.specs.Calls.{port_begin_answer, port_after_begin, port_down_answer, after_down, entries_begun, free_answer, where_begun}
+use Rattle.queue_pair.specs.Gates.{answer_unless, begin_answer, queue_after_begin, qpdown_answer, after_qpdown, closed_where_begun, port_unless}
 use Rattle.queue_pair.specs.Queue.{QueueState, with_port}
 use Rattle.queue_pair.specs.declared.BeginAnswer.{BeginAnswer}
 use Rattle.queue_pair.specs.declared.BeginAnswer.TheVariants.{Ok as IsBegun, LinkDown as IsLinkDown}
 use Rattle.step_kinds.specs.declared.lanes.Begun.{Begun}
 use Rattle.fabric_rule.specs.Answers.{of_begin, of_xbegin}
-use Rattle.fabric_rule.specs.InPlace.{FitsSlot, sender_of}
+use Rattle.fabric_rule.specs.InPlace.{FitsSlot, fabric_sender_of}
 use Rattle.fabric_rule.specs.Parts.{QueuePart, SessionCount, count_in, one_more, with_queue}
-use Rattle.fabric_rule.specs.StandsFor.{IsOn, PairStands, QueueStands, has_forgotten, view_of}
+use Rattle.fabric_rule.specs.StandsFor.{IsOn, PairStands, QueueStands, has_link_forgotten, view_of}
 use Rattle.fabric_rule.proofs.NewEntries.{begun_in_place, free_less, last-begun, length-begun, length-pieces, pieces_fit, some_pieces}
 use Rattle.fabric_rule.proofs.Counts.{counts_one_more}
 use Rattle.fabric_rule.proofs.Follows.{Follows, three_same, updated_same}
@@ -66,15 +66,15 @@ module _ {devs : List DevPlan} {plan : PairPlan} {k : ℕ} (now : Standing devs 
 
   -- the queue then
   begins : (side : Side) (queue : ℕ) (first : Entry) (others : List Entry) (told : ℕ) (closed seen_closed : Bool) (flow : Flow) (counters : Counters) (accepted : List SessionCount) (dev : DevPart) (seen_accepted : ℕ → ℕ)
-      → queue < (side_plan plan side).queues → has_forgotten now.site.pair.link side ≡ false → SizesFit plan → FitsSlot plan side queue first → AllByRecursion (FitsSlot plan side queue) others
+      → queue < (side_plan plan side).queues → has_link_forgotten now.site.pair.link side ≡ false → SizesFit plan → FitsSlot plan side queue first → AllByRecursion (FitsSlot plan side queue) others
       → closed ≡ seen_closed → flow.stopped ≡ dev.stopped → flow.stop ≡ (part now side queue).flow.stop → flow.start ≡ (part now side queue).flow.start → counters ≡ dev.counters → ((session : ℕ) → count_in accepted session ≡ seen_accepted session)
-      → QueueStands devs plan k side queue (has_forgotten now.site.pair.link side)
-      (record (view_of now.site.pair side queue) { sends = sender_of (lane_with side queue first others told); dev = dev; accepted = seen_accepted; closed = seen_closed })
+      → QueueStands devs plan k side queue (has_link_forgotten now.site.pair.link side)
+      (record (view_of now.site.pair side queue) { sends = fabric_sender_of (lane_with side queue first others told); dev = dev; accepted = seen_accepted; closed = seen_closed })
       (record (part now side queue) { queue = record { port = port_with side queue first others told; closed = closed }; flow = flow; counters = counters; accepted = accepted })
   begins side queue first others told closed seen_closed flow counters accepted dev seen_accepted among fresh fits short all same_closed stopped stop start counted counts =
       sent_stands now side queue (lane_with side queue first others told) (port_with side queue first others told).sending closed seen_closed flow counters accepted dev seen_accepted among fresh
       (ap (λ begun. record { begun = begun; told = told; entry = first; todo = labels_of queue (length (lane_of now.site.pair side queue).sent) first; waiting = others }) (sym (length-begun (lane_of now.site.pair side queue).sent first)))
-      (λ _. sym (last-begun queue (sender_of (lane_of now.site.pair side queue)) first others told)) (begun_in_place plan side queue (sender_of (lane_of now.site.pair side queue)) first others told fits short all)
+      (λ _. sym (last-begun queue (fabric_sender_of (lane_of now.site.pair side queue)) first others told)) (begun_in_place plan side queue (fabric_sender_of (lane_of now.site.pair side queue)) first others told fits short all)
       same_closed stopped stop start counted counts (inr fits)
 
   -- the part of a queue on which a frame was begun and accepted
@@ -99,7 +99,7 @@ module _ {devs : List DevPlan} {plan : PairPlan} {k : ℕ} (now : Standing devs 
   none_delivered : (side : Side) (queue session : ℕ) → (more_accepted side queue session).delivered ≡ (tally_of now.site.pair side queue session).delivered
   none_delivered side queue = updated_same (λ (tally : Tally). tally.delivered) (tally_of now.site.pair side queue) now.site.pair.link.session (one_accepted side queue) refl
 
-  not_up : (side : Side) → has_forgotten now.site.pair.link side ≡ true → is_up now.site.pair.link.state ≡ false
+  not_up : (side : Side) → has_link_forgotten now.site.pair.link side ≡ true → is_up now.site.pair.link.state ≡ false
   not_up side forgot =
       ⊎_elim (λ up. absurd (true≢false (sym forgot ∙ ap (λ down. down && at_side now.site.pair.link.clean side) (not_down_up now.site.pair.link.state up)))) (λ down. down) (cases_Bool (is_up now.site.pair.link.state))
 
@@ -142,7 +142,7 @@ module _ {devs : List DevPlan} {plan : PairPlan} {k : ℕ} (now : Standing devs 
 
   -- the move of a begin by its queue pair
   abbrev begin_with : Side → ℕ → List ℕ → QueueState → Move
-  begin_with side queue frame q = begin_says side queue frame (of_begin (begin_answer q (kept now).bridge (length frame))) (after_begin q (kept now).bridge frame)
+  begin_with side queue frame q = begin_says side queue frame (of_begin (begin_answer q (kept now).bridge (length frame))) (queue_after_begin q (kept now).bridge frame)
 
   abbrev needs : Side → ℕ → List ℕ → ℕ
   needs side queue frame = pieces_in (sizes_of plan side queue).largest (length frame)
@@ -175,7 +175,7 @@ module _ {devs : List DevPlan} {plan : PairPlan} {k : ℕ} (now : Standing devs 
   begin_read side queue frame pieces false same at_seen = at_seen
 
   -- the pair once a frame was begun
-  begin_ok : (side : Side) (queue : ℕ) (first : Entry) (others : List Entry) → queue < (side_plan plan side).queues → has_forgotten now.site.pair.link side ≡ false → SizesFit plan → AllByRecursion (FitsSlot plan side queue) (first ∷ others)
+  begin_ok : (side : Side) (queue : ℕ) (first : Entry) (others : List Entry) → queue < (side_plan plan side).queues → has_link_forgotten now.site.pair.link side ≡ false → SizesFit plan → AllByRecursion (FitsSlot plan side queue) (first ∷ others)
       → PairStands devs plan k (record now.site { pair = counts_accepted (with_lane now.site.pair side queue (lane_with side queue first others ((lane_of now.site.pair side queue).told + 1))) side queue })
       (with_queue (kept now) side queue (accepted_part side queue first others))
   begin_ok side queue first others among fresh fits all =
@@ -186,7 +186,7 @@ module _ {devs : List DevPlan} {plan : PairPlan} {k : ℕ} (now : Standing devs 
       (begins side queue first others ((lane_of now.site.pair side queue).told + 1) (has_bit (side_of now.site.pair side).closed queue) (has_bit (side_of now.site.pair side).closed queue) (part now side queue).flow (part now side queue).counters
       (one_more (part now side queue).accepted now.site.pair.link.session) (dev_of now.site.pair side queue) (λ session. (more_accepted side queue session).accepted) among fresh fits all.0 all.1 refl h.stopped refl refl h.counters (counts_one side queue among))
 
-  begin_fresh : (side : Side) (queue : ℕ) (frame : List ℕ) (pieces : List Entry) (joined : Bool) → queue < (side_plan plan side).queues → has_forgotten now.site.pair.link side ≡ false → (joined ≡ true → SizesFit plan) → pieces_of (sizes_of plan side queue).largest frame ≡ pieces → AllByRecursion (FitsSlot plan side queue) pieces
+  begin_fresh : (side : Side) (queue : ℕ) (frame : List ℕ) (pieces : List Entry) (joined : Bool) → queue < (side_plan plan side).queues → has_link_forgotten now.site.pair.link side ≡ false → (joined ≡ true → SizesFit plan) → pieces_of (sizes_of plan side queue).largest frame ≡ pieces → AllByRecursion (FitsSlot plan side queue) pieces
       → BeginAt side queue frame pieces joined (seen_word now side queue)
   begin_fresh side queue frame [] joined among fresh fits is all = absurd (is_some_piece (sizes_of plan side queue).largest frame is)
   begin_fresh side queue frame (first ∷ others) joined among fresh fits is all =
@@ -205,7 +205,7 @@ module _ {devs : List DevPlan} {plan : PairPlan} {k : ℕ} (now : Standing devs 
       (tests up side queue (length frame) (needs side queue frame) (is_long side queue frame) false (has_bit (side_of now.site.pair side).joined queue) ((reads now).index_word side queue)))
       (begin_says side queue frame (of_begin (answer_unless refuses (port_begin_answer q.port (kept now).bridge (length frame)))) (port_unless refuses q (port_after_begin q.port (kept now).bridge frame)))
 
-  begin_by : (side : Side) (queue : ℕ) (frame : List ℕ) (forgotten : Bool) → queue < (side_plan plan side).queues → has_forgotten now.site.pair.link side ≡ forgotten → (has_bit (side_of now.site.pair side).joined queue ≡ true → SizesFit plan)
+  begin_by : (side : Side) (queue : ℕ) (frame : List ℕ) (forgotten : Bool) → queue < (side_plan plan side).queues → has_link_forgotten now.site.pair.link side ≡ forgotten → (has_bit (side_of now.site.pair side).joined queue ≡ true → SizesFit plan)
       → Follows devs plan k now.site (Begin k side queue frame) (begin_step (sizes_of plan side queue) (reads now) now.site.pair side queue frame) (begin_with side queue frame (port_queue now side queue forgotten))
   begin_by side queue frame true among forgot fits =
       subst (BeginSeen side queue frame true (is_up now.site.pair.link.state)) (sym (joined_is now side queue))
@@ -269,7 +269,7 @@ module _ {devs : List DevPlan} {plan : PairPlan} {k : ℕ} (now : Standing devs 
   no_payload : (side : Side) (queue : ℕ) → FitsSlot plan side queue GoesDown
   no_payload side queue = omega arith
 
-  down_ok : (side : Side) (queue : ℕ) → queue < (side_plan plan side).queues → has_forgotten now.site.pair.link side ≡ false → SizesFit plan
+  down_ok : (side : Side) (queue : ℕ) → queue < (side_plan plan side).queues → has_link_forgotten now.site.pair.link side ≡ false → SizesFit plan
       → DownCore side queue None (answer.OkNumber (lane_of now.site.pair side queue).told) (IsBegun (lane_of now.site.pair side queue).told) (with_port (port_queue now side queue false) (port_with side queue GoesDown [] (lane_of now.site.pair side queue).told))
   down_ok side queue among fresh fits =
       let h = (now.sides side).queues queue among in (
@@ -284,11 +284,11 @@ module _ {devs : List DevPlan} {plan : PairPlan} {k : ℕ} (now : Standing devs 
   DownSeen side queue forgotten up joined =
       let q = port_queue now side queue forgotten in
       let refuses = side_says up joined q.closed in
-      let begun = answer_unless refuses (down_answer q.port (kept now).bridge) in
+      let begun = answer_unless refuses (port_down_answer q.port (kept now).bridge) in
       Follows devs plan k now.site (QpDown k side queue) (down_made side queue (tests up side queue 0 1 false false (has_bit (side_of now.site.pair side).joined queue) ((reads now).index_word side queue)))
       (down_says side queue (of_begin begun) (closed_where_begun begun (port_unless refuses q (after_down q.port (kept now).bridge))))
 
-  down_by : (side : Side) (queue : ℕ) (forgotten : Bool) → queue < (side_plan plan side).queues → has_forgotten now.site.pair.link side ≡ forgotten → (has_bit (side_of now.site.pair side).joined queue ≡ true → SizesFit plan)
+  down_by : (side : Side) (queue : ℕ) (forgotten : Bool) → queue < (side_plan plan side).queues → has_link_forgotten now.site.pair.link side ≡ forgotten → (has_bit (side_of now.site.pair side).joined queue ≡ true → SizesFit plan)
       → Follows devs plan k now.site (QpDown k side queue) (qpdown_step (sizes_of plan side queue) (reads now) now.site.pair side queue) (down_with side queue (port_queue now side queue forgotten))
   down_by side queue true among forgot fits =
       subst (DownSeen side queue true (is_up now.site.pair.link.state)) (sym (joined_is now side queue))
@@ -321,7 +321,7 @@ module _ {devs : List DevPlan} {plan : PairPlan} {k : ℕ} (now : Standing devs 
       }
   device_part side queue frame said q after = record (part_with now side queue q) { counters = count_refused (part now side queue).counters }
 
-  device_part_is : (side : Side) (queue : ℕ) (frame : List ℕ) (said : Answer) (q : QueueState) → xbegun said (kept now).bridge (part_with now side queue q) frame ≡ device_part side queue frame said q (after_begin q (kept now).bridge frame)
+  device_part_is : (side : Side) (queue : ℕ) (frame : List ℕ) (said : Answer) (q : QueueState) → xbegun said (kept now).bridge (part_with now side queue q) frame ≡ device_part side queue frame said q (queue_after_begin q (kept now).bridge frame)
   device_part_is side queue frame (answer.OkNumber number) q = refl
   device_part_is side queue frame said q = refl
 
@@ -347,7 +347,7 @@ module _ {devs : List DevPlan} {plan : PairPlan} {k : ℕ} (now : Standing devs 
   abbrev device_says : Side → ℕ → List ℕ → Answer → QueueState → QueueState → Move
   device_says side queue frame said q after = record { answer = said; after = with_queue (kept now) side queue (device_part side queue frame said q after) }
 
-  refused : (side : Side) (queue : ℕ) (forgotten : Bool) → queue < (side_plan plan side).queues → has_forgotten now.site.pair.link side ≡ forgotten
+  refused : (side : Side) (queue : ℕ) (forgotten : Bool) → queue < (side_plan plan side).queues → has_link_forgotten now.site.pair.link side ≡ forgotten
       → PairStands devs plan k (record now.site { pair = counts_refused now.site.pair side queue }) (with_queue (kept now) side queue (record (part_with now side queue (port_queue now side queue forgotten)) { counters = count_refused (part now side queue).counters }))
   refused side queue forgotten among is =
       let h = (now.sides side).queues queue among in
@@ -393,7 +393,7 @@ module _ {devs : List DevPlan} {plan : PairPlan} {k : ℕ} (now : Standing devs 
 
     abbrev device_with : Side → ℕ → Bool → QueueState → Move
     device_with side queue stopped q =
-        device_says side queue frame (of_xbegin stopped (begin_answer q (kept now).bridge (length frame))) q (after_begin q (kept now).bridge frame)
+        device_says side queue frame (of_xbegin stopped (begin_answer q (kept now).bridge (length frame))) q (queue_after_begin q (kept now).bridge frame)
 
     abbrev frame_part : Side → ℕ → Entry → List Entry → QueuePart
     frame_part side queue first others =
@@ -411,7 +411,7 @@ module _ {devs : List DevPlan} {plan : PairPlan} {k : ℕ} (now : Standing devs 
         ∙ ap (λ index. free_in_memory (sizes_of plan side queue).entries (head_in (sizes_of plan side queue) (lane_of now.site.pair side queue)) index - needs side queue frame)
         (same_word plan now.site now.pages now.spare side queue now.declared among (own_fits plan fits side))
 
-    device_ok : (side : Side) (queue : ℕ) (first : Entry) (others : List Entry) → queue < (side_plan plan side).queues → d < length devs → IsOn (dev_plan devs d) k side queue → has_forgotten now.site.pair.link side ≡ false → SizesFit plan → AllByRecursion (FitsSlot plan side queue) (first ∷ others)
+    device_ok : (side : Side) (queue : ℕ) (first : Entry) (others : List Entry) → queue < (side_plan plan side).queues → d < length devs → IsOn (dev_plan devs d) k side queue → has_link_forgotten now.site.pair.link side ≡ false → SizesFit plan → AllByRecursion (FitsSlot plan side queue) (first ∷ others)
         → length (first ∷ others) ≡ needs side queue frame → is_lane_busy (lane_of now.site.pair side queue) ≡ false → is_full side queue (needs side queue frame) (seen_word now side queue) ≡ false
         → DeviceCore side queue (first ∷ others) None (answer.OkNumber (lane_of now.site.pair side queue).told) (port_queue now side queue false) (with_port (port_queue now side queue false) (port_new side queue (first ∷ others)))
     device_ok side queue first others among declared on fresh fits all count idle room =
@@ -426,7 +426,7 @@ module _ {devs : List DevPlan} {plan : PairPlan} {k : ℕ} (now : Standing devs 
               refl refl (ap (λ counters. count_accepted counters (length frame)) h.counters) (counts_one side queue among)),
         )
 
-    device_fresh : (side : Side) (queue : ℕ) (pieces : List Entry) (joined : Bool) → queue < (side_plan plan side).queues → d < length devs → IsOn (dev_plan devs d) k side queue → has_forgotten now.site.pair.link side ≡ false → (joined ≡ true → SizesFit plan)
+    device_fresh : (side : Side) (queue : ℕ) (pieces : List Entry) (joined : Bool) → queue < (side_plan plan side).queues → d < length devs → IsOn (dev_plan devs d) k side queue → has_link_forgotten now.site.pair.link side ≡ false → (joined ≡ true → SizesFit plan)
         → pieces_of (sizes_of plan side queue).largest frame ≡ pieces → AllByRecursion (FitsSlot plan side queue) pieces → DeviceAt side queue pieces (dev_of now.site.pair side queue).stopped joined (seen_word now side queue)
     device_fresh side queue [] joined among declared on fresh fits is all = absurd (is_some_piece (sizes_of plan side queue).largest frame is)
     device_fresh side queue (first ∷ others) joined among declared on fresh fits is all =
@@ -445,7 +445,7 @@ module _ {devs : List DevPlan} {plan : PairPlan} {k : ℕ} (now : Standing devs 
         (tests up side queue (length frame) (needs side queue frame) (is_long side queue frame) (dev_of now.site.pair side queue).stopped (has_bit (side_of now.site.pair side).joined queue) ((reads now).index_word side queue)))
         (device_says side queue frame (of_xbegin (dev_of now.site.pair side queue).stopped (answer_unless refuses (port_begin_answer q.port (kept now).bridge (length frame)))) q (port_unless refuses q (port_after_begin q.port (kept now).bridge frame)))
 
-    device_by : (side : Side) (queue : ℕ) (forgotten : Bool) → queue < (side_plan plan side).queues → d < length devs → IsOn (dev_plan devs d) k side queue → has_forgotten now.site.pair.link side ≡ forgotten → (has_bit (side_of now.site.pair side).joined queue ≡ true → SizesFit plan)
+    device_by : (side : Side) (queue : ℕ) (forgotten : Bool) → queue < (side_plan plan side).queues → d < length devs → IsOn (dev_plan devs d) k side queue → has_link_forgotten now.site.pair.link side ≡ forgotten → (has_bit (side_of now.site.pair side).joined queue ≡ true → SizesFit plan)
         → Follows devs plan k now.site (Xbegin k side queue d dst kind payload)
         (device_made side queue d frame (pieces_of (sizes_of plan side queue).largest frame) (tests (is_up now.site.pair.link.state) side queue (length frame) (needs side queue frame) (is_long side queue frame) (dev_of now.site.pair side queue).stopped (has_bit (side_of now.site.pair side).joined queue) ((reads now).index_word side queue)))
         (device_with side queue (dev_of now.site.pair side queue).stopped (port_queue now side queue forgotten))

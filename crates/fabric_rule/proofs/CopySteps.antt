@@ -21,12 +21,12 @@ use Rattle.ledger_model.specs.Ledger.{DevPart, LanePart, Tally, dev_of, lane_to,
 use Rattle.ledger_model.specs.Outcome.{Outcome, decided, refuse_if}
 use Rattle.ledger_model.specs.Receiving.{copy_step, counts_delivered}
 use Rattle.frame_ring.specs.Port.{PortState, with_receiving}
-use Rattle.frame_ring.specs.Calls.{after_copy, copy_answer, gathered_next}
+use Rattle.frame_ring.specs.Calls.{port_after_copy, port_copy_answer, gathered_next}
 use Rattle.queue_pair.specs.Queue.{QueueState, with_port}
 use Rattle.fabric_rule.specs.Answers.{of_copy}
-use Rattle.fabric_rule.specs.InPlace.{CountsOfPhase, ReceivingInPlace, receiver_of}
+use Rattle.fabric_rule.specs.InPlace.{CountsOfPhase, ReceivingInPlace, fabric_receiver_of}
 use Rattle.fabric_rule.specs.Parts.{one_more, with_queue}
-use Rattle.fabric_rule.specs.StandsFor.{has_forgotten}
+use Rattle.fabric_rule.specs.StandsFor.{has_link_forgotten}
 use Rattle.fabric_rule.proofs.Changes.{changes, peer_changes}
 use Rattle.fabric_rule.proofs.Counts.{counts_one_more}
 use Rattle.fabric_rule.proofs.Follows.{Follows, updated_same}
@@ -102,8 +102,8 @@ module _ {devs : List DevPlan} {plan : PairPlan} {k : ℕ} (now : Standing devs 
       Follows devs plan k now.site (Copy k side queue) (copy_made side queue copying more_parts more_entries gathered) (copied side queue (port_queue now side queue false) copying more_parts more_entries seen)
 
   -- the receiver after an entry
-  took_entry : (side : Side) (queue done : ℕ) (gathered : List ℕ) → is_copying (lane_to now.site.pair side queue).phase ≡ true → ReceivingInPlace plan side queue false (receiver_of (lane_to now.site.pair side queue))
-      → ReceivingInPlace plan side queue false (receiver_of (record (lane_to now.site.pair side queue) { got = (lane_to now.site.pair side queue).got + 1; phase = Copied; gathered = gathered; done = done }))
+  took_entry : (side : Side) (queue done : ℕ) (gathered : List ℕ) → is_copying (lane_to now.site.pair side queue).phase ≡ true → ReceivingInPlace plan side queue false (fabric_receiver_of (lane_to now.site.pair side queue))
+      → ReceivingInPlace plan side queue false (fabric_receiver_of (record (lane_to now.site.pair side queue) { got = (lane_to now.site.pair side queue).got + 1; phase = Copied; gathered = gathered; done = done }))
   took_entry side queue done gathered copying old =
       record {
         counts = λ _. copied_counts (lane_to now.site.pair side queue).phase (lane_to now.site.pair side queue).acked (lane_to now.site.pair side queue).cleared (lane_to now.site.pair side queue).got copying (old.counts refl);
@@ -122,11 +122,11 @@ module _ {devs : List DevPlan} {plan : PairPlan} {k : ℕ} (now : Standing devs 
   abbrev copied_with : Side → ℕ → QueueState → Move
   copied_with side queue q =
       record {
-        answer = of_copy (copy_answer q.port (kept now).bridge);
-        after = with_queue (kept now) side queue (delivered_where_whole (copy_answer q.port (kept now).bridge) now.site.pair.link.session (part_with now side queue (with_port q (after_copy q.port (kept now).bridge))));
+        answer = of_copy (port_copy_answer q.port (kept now).bridge);
+        after = with_queue (kept now) side queue (delivered_where_whole (port_copy_answer q.port (kept now).bridge) now.site.pair.link.session (part_with now side queue (with_port q (port_after_copy q.port (kept now).bridge))));
       }
 
-  copies : (side : Side) (queue : ℕ) (copying more_parts more_entries : Bool) (gathered : List ℕ) → queue < (side_plan plan side).queues → has_forgotten now.site.pair.link side ≡ false → is_copying (lane_to now.site.pair side queue).phase ≡ copying
+  copies : (side : Side) (queue : ℕ) (copying more_parts more_entries : Bool) (gathered : List ℕ) → queue < (side_plan plan side).queues → has_link_forgotten now.site.pair.link side ≡ false → is_copying (lane_to now.site.pair side queue).phase ≡ copying
       → CopyFollows side queue copying more_parts more_entries gathered gathered
   copies side queue false more_parts more_entries gathered among fresh is = (refl, as_it_was now side queue false among fresh)
   copies side queue true true more_entries gathered among fresh is =
@@ -148,7 +148,7 @@ module _ {devs : List DevPlan} {plan : PairPlan} {k : ℕ} (now : Standing devs 
             (took_entry side queue ((lane_to now.site.pair side queue).done + 1) [] is old.receiving)),
       )
 
-  copy_by : (side : Side) (queue : ℕ) (forgotten : Bool) → queue < (side_plan plan side).queues → has_forgotten now.site.pair.link side ≡ forgotten
+  copy_by : (side : Side) (queue : ℕ) (forgotten : Bool) → queue < (side_plan plan side).queues → has_link_forgotten now.site.pair.link side ≡ forgotten
       → Follows devs plan k now.site (Copy k side queue) (copy_step (reads now) now.site.pair side queue) (copied_with side queue (port_queue now side queue forgotten))
   copy_by side queue true among forgot =
       subst (λ copying. Follows devs plan k now.site (Copy k side queue)

@@ -16,8 +16,8 @@ use Rattle.ledger_model.specs.Receiving.{poked_without, raws_before}
 use Rattle.step_kinds.specs.Sides.{other_side}
 use Rattle.plan_numbers.specs.Memories.{memory_size}
 use Rattle.bridge_pair.specs.Flights.{Flying, flying_order, flying_of}
-use Rattle.fabric_rule.specs.InPlace.{FlightInPlace, HaveBytes, IsBegun, LiesIn}
-use Rattle.fabric_rule.specs.StandsFor.{entry_among, flying_labelled, raw_bytes, raws_behind, write_of, writes_labelled}
+use Rattle.fabric_rule.specs.InPlace.{FlightInPlace, HaveRawBytes, IsLabelBegun, ArrivalLiesIn}
+use Rattle.fabric_rule.specs.StandsFor.{fabric_entry_among, flying_labelled, raw_bytes, raws_behind, fabric_write_of, writes_labelled}
 
 -- Lists of which all members hold something
 
@@ -47,7 +47,7 @@ all_get P (first ∷ xs) (suc place) x all at = all_get P xs place x all.1 at
 -- A label's write
 
 -- The write that is made of a label and an entry bears that label.
-pub label-write : (plan : PairPlan) (side : Side) (entry : Entry) (raw : List ℕ) (label : Label) → (write_of plan side entry raw label).label ≡ label
+pub label-write : (plan : PairPlan) (side : Side) (entry : Entry) (raw : List ℕ) (label : Label) → (fabric_write_of plan side entry raw label).label ≡ label
 label-write plan side entry raw (Chunk q n part) = refl
 label-write plan side entry raw (Len q n) = refl
 label-write plan side entry raw (Ver q n) = refl
@@ -62,7 +62,7 @@ module _ (plan : PairPlan) (side : Side) where
   pub labels-writes : (sent : ℕ → List Entry) (labels : List Label) (poked : List (List ℕ)) → map (λ (flying : Flying). flying.label) (writes_labelled plan side sent labels poked) ≡ labels
   labels-writes sent [] poked = refl
   labels-writes sent (label ∷ labels) poked =
-      ap (λ l. l ∷ map (λ (flying : Flying). flying.label) (writes_labelled plan side sent labels (raws_behind label poked))) (label-write plan side (entry_among sent label) (raw_bytes label poked) label)
+      ap (λ l. l ∷ map (λ (flying : Flying). flying.label) (writes_labelled plan side sent labels (raws_behind label poked))) (label-write plan side (fabric_entry_among sent label) (raw_bytes label poked) label)
       ∙ ap (λ ls. label ∷ ls) (labels-writes sent labels (raws_behind label poked))
 
   pub length-writes : (sent : ℕ → List Entry) (labels : List Label) (poked : List (List ℕ)) → length (writes_labelled plan side sent labels poked) ≡ length labels
@@ -72,11 +72,11 @@ module _ (plan : PairPlan) (side : Side) where
   pub orders-writes : (sent : ℕ → List Entry) (labels : List Label) (poked : List (List ℕ)) → map flying_order (writes_labelled plan side sent labels poked) ≡ map (order_of plan side) labels
   orders-writes sent [] poked = refl
   orders-writes sent (label ∷ labels) poked =
-      ap (λ l. order_of plan side l ∷ map flying_order (writes_labelled plan side sent labels (raws_behind label poked))) (label-write plan side (entry_among sent label) (raw_bytes label poked) label)
+      ap (λ l. order_of plan side l ∷ map flying_order (writes_labelled plan side sent labels (raws_behind label poked))) (label-write plan side (fabric_entry_among sent label) (raw_bytes label poked) label)
       ∙ ap (λ ls. order_of plan side label ∷ ls) (orders-writes sent labels (raws_behind label poked))
 
   -- writes of labels after others, and their bytes after the others'
-  pub writes-append : (sent : ℕ → List Entry) (labels : List Label) (poked : List (List ℕ)) (more : List Label) (bytes : List (List ℕ)) → HaveBytes labels poked
+  pub writes-append : (sent : ℕ → List Entry) (labels : List Label) (poked : List (List ℕ)) (more : List Label) (bytes : List (List ℕ)) → HaveRawBytes labels poked
       → writes_labelled plan side sent (labels ++ more) (poked ++ bytes) ≡ writes_labelled plan side sent labels poked ++ writes_labelled plan side sent more bytes
   writes-append sent [] [] more bytes have = refl
   writes-append sent [] (one ∷ poked) more bytes have = absurd have
@@ -85,7 +85,7 @@ module _ (plan : PairPlan) (side : Side) where
   writes-append sent (label ∷ labels) poked more bytes have = ap (λ ws. flying_labelled plan side sent [] label ∷ ws) (writes-append sent labels poked more bytes have)
 
   -- the writes where the labels' entries are the same
-  pub writes-same : (sent sent' : ℕ → List Entry) (labels : List Label) (poked : List (List ℕ)) → AllByRecursion (λ label. entry_among sent' label ≡ entry_among sent label) labels
+  pub writes-same : (sent sent' : ℕ → List Entry) (labels : List Label) (poked : List (List ℕ)) → AllByRecursion (λ label. fabric_entry_among sent' label ≡ fabric_entry_among sent label) labels
       → writes_labelled plan side sent' labels poked ≡ writes_labelled plan side sent labels poked
   writes-same sent sent' [] poked same = refl
   writes-same sent sent' (label ∷ labels) poked same =
@@ -93,10 +93,10 @@ module _ (plan : PairPlan) (side : Side) where
       ∙ ap (λ ws. flying_labelled plan side sent (raw_bytes label poked) label ∷ ws) (writes-same sent sent' labels (raws_behind label poked) same.1)
     where
       flying_of_entry : Entry → Flying
-      flying_of_entry entry = flying_of plan side (write_of plan side entry (raw_bytes label poked) label)
+      flying_of_entry entry = flying_of plan side (fabric_write_of plan side entry (raw_bytes label poked) label)
 
 -- If the raw writes of two lists of labels have their bytes, those of the joined list have the joined bytes.
-pub have-push : (labels : List Label) (poked : List (List ℕ)) (more : List Label) (bytes : List (List ℕ)) → HaveBytes labels poked → HaveBytes more bytes → HaveBytes (labels ++ more) (poked ++ bytes)
+pub have-push : (labels : List Label) (poked : List (List ℕ)) (more : List Label) (bytes : List (List ℕ)) → HaveRawBytes labels poked → HaveRawBytes more bytes → HaveRawBytes (labels ++ more) (poked ++ bytes)
 have-push [] [] more bytes have own = own
 have-push [] (one ∷ poked) more bytes have own = absurd have
 have-push (Raw window offset len ∷ labels) [] more bytes have own = absurd have
@@ -111,12 +111,12 @@ SentGrows sent sent' = (queue : ℕ) → (more : List Entry) × (sent' queue ≡
 
 -- a label's entry, and that it was begun
 abbrev StaysBegun : (ℕ → List Entry) → (ℕ → List Entry) → Label → Type 0
-StaysBegun sent sent' label = (entry_among sent' label ≡ entry_among sent label) × IsBegun sent' label
+StaysBegun sent sent' label = (fabric_entry_among sent' label ≡ fabric_entry_among sent label) × IsLabelBegun sent' label
 
 entry-grows : (old new more : List Entry) (n : ℕ) → new ≡ old ++ more → n < length old → (slice_index_or new n GoesDown ≡ slice_index_or old n GoesDown) × (n < length new)
 entry-grows old new more n grows within = (ap (λ entries. slice_index_or entries n GoesDown) grows ∙ get_or_append_left old more GoesDown n within, rw grows (rw length-append (omega arith)))
 
-label-grows : (sent sent' : ℕ → List Entry) → SentGrows sent sent' → (label : Label) → IsBegun sent label → StaysBegun sent sent' label
+label-grows : (sent sent' : ℕ → List Entry) → SentGrows sent sent' → (label : Label) → IsLabelBegun sent label → StaysBegun sent sent' label
 label-grows sent sent' grows (Chunk q n part) begun = entry-grows (sent q) (sent' q) (grows q).0 n (grows q).1 begun
 label-grows sent sent' grows (Len q n) begun = entry-grows (sent q) (sent' q) (grows q).0 n (grows q).1 begun
 label-grows sent sent' grows (Ver q n) begun = entry-grows (sent q) (sent' q) (grows q).0 n (grows q).1 begun
@@ -125,15 +125,15 @@ label-grows sent sent' grows (Down q n) begun = entry-grows (sent q) (sent' q) (
 label-grows sent sent' grows label begun = (refl, tt)
 
 module _ (plan : PairPlan) (side : Side) (sent sent' : ℕ → List Entry) (grows : SentGrows sent sent') (flight : List Label) (poked : List (List ℕ)) where
-  pub writes_grow : AllByRecursion (IsBegun sent) flight → writes_labelled plan side sent' flight poked ≡ writes_labelled plan side sent flight poked
-  writes_grow begun = writes-same plan side sent sent' flight poked (all_weaker (IsBegun sent) (λ label. entry_among sent' label ≡ entry_among sent label) (λ label begun. (label-grows sent sent' grows label begun).0) flight begun)
+  pub writes_grow : AllByRecursion (IsLabelBegun sent) flight → writes_labelled plan side sent' flight poked ≡ writes_labelled plan side sent flight poked
+  writes_grow begun = writes-same plan side sent sent' flight poked (all_weaker (IsLabelBegun sent) (λ label. fabric_entry_among sent' label ≡ fabric_entry_among sent label) (λ label begun. (label-grows sent sent' grows label begun).0) flight begun)
 
   pub flight_grows : (down : Bool) → FlightInPlace plan side down sent flight poked (writes_labelled plan side sent flight poked) → FlightInPlace plan side down sent' flight poked (writes_labelled plan side sent' flight poked)
   flight_grows down h =
       record {
-        begun = all_weaker (IsBegun sent) (IsBegun sent') (λ label begun. (label-grows sent sent' grows label begun).1) flight h.begun;
+        begun = all_weaker (IsLabelBegun sent) (IsLabelBegun sent') (λ label begun. (label-grows sent sent' grows label begun).1) flight h.begun;
         raws = h.raws;
-        places = subst (AllByRecursion (λ (flying : Flying). LiesIn (memory_size plan (other_side side)) flying.arrival)) (sym (writes_grow h.begun)) h.places;
+        places = subst (AllByRecursion (λ (flying : Flying). ArrivalLiesIn (memory_size plan (other_side side)) flying.arrival)) (sym (writes_grow h.begun)) h.places;
         none = h.none;
       }
 
@@ -186,25 +186,25 @@ at-behind : (first : Label) (labels : List Label) (poked : List (List ℕ)) (pla
 at-behind first labels poked place other = ap (λ n. slice_index_or poked n []) (raws-behind first labels place other)
 
 -- the label at the front
-left-first : (first : Label) (labels : List Label) (poked : List (List ℕ)) → HaveBytes (first ∷ labels) poked → poked_left (first ∷ labels) poked zero first ≡ raws_behind first poked
+left-first : (first : Label) (labels : List Label) (poked : List (List ℕ)) → HaveRawBytes (first ∷ labels) poked → poked_left (first ∷ labels) poked zero first ≡ raws_behind first poked
 left-first (Raw window offset len) labels [] have = absurd have
 left-first (Raw window offset len) labels (one ∷ poked) have = refl
 left-first first labels poked have = refl
 
-have-first : (first : Label) (labels : List Label) (poked : List (List ℕ)) → HaveBytes (first ∷ labels) poked → HaveBytes labels (raws_behind first poked)
+have-first : (first : Label) (labels : List Label) (poked : List (List ℕ)) → HaveRawBytes (first ∷ labels) poked → HaveRawBytes labels (raws_behind first poked)
 have-first (Raw window offset len) labels [] have = absurd have
 have-first (Raw window offset len) labels (one ∷ poked) have = have
 have-first first labels poked have = have
 
 module _ (plan : PairPlan) (side : Side) (sent : ℕ → List Entry) where
-  flying-first : (first : Label) (labels : List Label) (poked : List (List ℕ)) → HaveBytes (first ∷ labels) poked
+  flying-first : (first : Label) (labels : List Label) (poked : List (List ℕ)) → HaveRawBytes (first ∷ labels) poked
       → flying_labelled plan side sent (raw_bytes first poked) first ≡ flying_labelled plan side sent (poked_at (first ∷ labels) poked zero) first
   flying-first (Raw window offset len) labels [] have = absurd have
   flying-first (Raw window offset len) labels (one ∷ poked) have = refl
   flying-first first labels poked have = refl
 
   -- the write at a place
-  pub writes-get : (labels : List Label) (poked : List (List ℕ)) (place : ℕ) (label : Label) → HaveBytes labels poked → slice_get labels place ≡ Some label
+  pub writes-get : (labels : List Label) (poked : List (List ℕ)) (place : ℕ) (label : Label) → HaveRawBytes labels poked → slice_get labels place ≡ Some label
       → slice_get (writes_labelled plan side sent labels poked) place ≡ Some (flying_labelled plan side sent (poked_at labels poked place) label)
   writes-get [] poked place label have at = absurd (none-some label at)
   writes-get (first ∷ labels) poked zero label have at =
@@ -216,7 +216,7 @@ module _ (plan : PairPlan) (side : Side) (sent : ℕ → List Entry) where
       writes-get labels poked place label have at ∙ ap (λ bytes. Some (flying_labelled plan side sent bytes label)) (sym (at-behind first labels poked place tt))
 
   -- and the others without it
-  pub writes-remove : (labels : List Label) (poked : List (List ℕ)) (place : ℕ) (label : Label) → HaveBytes labels poked → slice_get labels place ≡ Some label
+  pub writes-remove : (labels : List Label) (poked : List (List ℕ)) (place : ℕ) (label : Label) → HaveRawBytes labels poked → slice_get labels place ≡ Some label
       → writes_labelled plan side sent (remove labels place) (poked_left labels poked place label) ≡ remove (writes_labelled plan side sent labels poked) place
   writes-remove [] poked place label have at = absurd (none-some label at)
   writes-remove (first ∷ labels) poked zero label have at =
@@ -231,14 +231,14 @@ module _ (plan : PairPlan) (side : Side) (sent : ℕ → List Entry) where
       ∙ ap (λ ws. flying_labelled plan side sent [] first ∷ ws) (writes-remove labels poked place label have at)
 
 -- The raw writes left in flight have their bytes once a label is taken out, with its own bytes if it is raw.
-pub have-remove : (labels : List Label) (poked : List (List ℕ)) (place : ℕ) (label : Label) → HaveBytes labels poked → slice_get labels place ≡ Some label
-    → HaveBytes (remove labels place) (poked_left labels poked place label)
+pub have-remove : (labels : List Label) (poked : List (List ℕ)) (place : ℕ) (label : Label) → HaveRawBytes labels poked → slice_get labels place ≡ Some label
+    → HaveRawBytes (remove labels place) (poked_left labels poked place label)
 have-remove [] poked place label have at = absurd (none-some label at)
 have-remove (first ∷ labels) poked zero label have at =
-    subst (λ (l : Label). HaveBytes labels (poked_left (first ∷ labels) poked zero l)) (same_Some first label at)
-    (subst (HaveBytes labels) (sym (left-first first labels poked have)) (have-first first labels poked have))
+    subst (λ (l : Label). HaveRawBytes labels (poked_left (first ∷ labels) poked zero l)) (same_Some first label at)
+    (subst (HaveRawBytes labels) (sym (left-first first labels poked have)) (have-first first labels poked have))
 have-remove (Raw window offset len ∷ labels) [] (suc place) label have at = absurd have
 have-remove (Raw window offset len ∷ labels) (one ∷ poked) (suc place) label have at =
-    subst (HaveBytes (Raw window offset len ∷ remove labels place)) (sym (left-behind_raw window offset len labels one poked place label)) (have-remove labels poked place label have at)
+    subst (HaveRawBytes (Raw window offset len ∷ remove labels place)) (sym (left-behind_raw window offset len labels one poked place label)) (have-remove labels poked place label have at)
 have-remove (first ∷ labels) poked (suc place) label have at =
-    subst (HaveBytes (first ∷ remove labels place)) (sym (left-behind first labels poked place label tt)) (have-remove labels poked place label have at)
+    subst (HaveRawBytes (first ∷ remove labels place)) (sym (left-behind first labels poked place label tt)) (have-remove labels poked place label have at)

@@ -28,7 +28,7 @@ use Rattle.hand_shake.proofs.Facade.{own_length}
 use Rattle.std.specs.Prelude.{slice_index_or}
 use Rattle.ledger_model.specs.Next.{fresh_dev}
 use Rattle.queue_pair.specs.Queue.{QueueState}
-use Rattle.fabric_rule.specs.InPlace.{receiver_of, sender_of}
+use Rattle.fabric_rule.specs.InPlace.{fabric_receiver_of, fabric_sender_of}
 use Rattle.fabric_rule.specs.Laws.{FreshPairStands, IsFreshPair, IsFreshQueue}
 use Rattle.fabric_rule.specs.Parts.{PairState, QueuePart, count_in, no_queue, plain_bridge}
 use Rattle.fabric_rule.specs.StandsFor.{PairStands, QueueStands, QueueView, SideStands, bridge_for}
@@ -96,8 +96,8 @@ fresh_bridge_is plan false pages declared =
 abbrev no_view : ℕ → QueueView
 no_view queue =
     record {
-      sends = sender_of fresh_lane;
-      receives = receiver_of fresh_lane;
+      sends = fabric_sender_of fresh_lane;
+      receives = fabric_receiver_of fresh_lane;
       dev = fresh_dev;
       accepted = λ session. 0;
       delivered = λ session. 0;

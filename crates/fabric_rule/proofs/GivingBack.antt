@@ -22,13 +22,13 @@ use Rattle.ledger_model.specs.Sending.{posts_through}
 use Rattle.step_kinds.specs.declared.steps.Label.TheVariants.{Index}
 use Rattle.ledger_model.specs.Receiving.{ack_step, clear_step}
 use Rattle.bridge_pair.specs.Bridge.{Bridge}
-use Rattle.frame_ring.specs.Calls.{ack_answer, acked_by, after_ack, after_clear, clear_answer, cleared_by}
+use Rattle.frame_ring.specs.Calls.{port_ack_answer, port_acked_by, port_after_ack, port_after_clear, port_clear_answer, cleared_by}
 use Rattle.frame_ring.specs.PortView.{flags_cleared, index_posted}
 use Rattle.queue_pair.specs.Queue.{QueueState, with_port}
 use Rattle.fabric_rule.specs.Answers.{of_ack, of_clear}
 use Rattle.fabric_rule.specs.InPlace.{CountsOfPhase}
 use Rattle.fabric_rule.specs.Parts.{with_bridge, with_queue}
-use Rattle.fabric_rule.specs.StandsFor.{PairStands, has_forgotten}
+use Rattle.fabric_rule.specs.StandsFor.{PairStands, has_link_forgotten}
 use Rattle.fabric_rule.proofs.Arrivals.{bytes_come}
 use Rattle.fabric_rule.proofs.Follows.{Follows}
 use Rattle.fabric_rule.proofs.OneQueue.{Standing, as_it_was, by_bridge, by_queue, received_part, then_standing, kept, part_with, port_queue, reads, receives, stands_by}
@@ -71,11 +71,11 @@ module _ {devs : List DevPlan} {plan : PairPlan} {k : ℕ} (now : Standing devs 
   -- the moves by a queue pair
   abbrev cleared_with : Side → ℕ → QueueState → Move
   cleared_with side queue q =
-      record { answer = of_clear (clear_answer q.port); after = with_bridge (with_queue (kept now) side queue (part_with now side queue (with_port q (after_clear q.port)))) (cleared_by q.port (kept now).bridge) }
+      record { answer = of_clear (port_clear_answer q.port); after = with_bridge (with_queue (kept now) side queue (part_with now side queue (with_port q (port_after_clear q.port)))) (cleared_by q.port (kept now).bridge) }
 
   abbrev acked_with : Side → ℕ → QueueState → Move
   acked_with side queue q =
-      record { answer = of_ack (ack_answer q.port); after = with_bridge (with_queue (kept now) side queue (part_with now side queue (with_port q (after_ack q.port)))) (acked_by q.port (kept now).bridge) }
+      record { answer = of_ack (port_ack_answer q.port); after = with_bridge (with_queue (kept now) side queue (part_with now side queue (with_port q (port_after_ack q.port)))) (port_acked_by q.port (kept now).bridge) }
 
   abbrev clear_made : Side → ℕ → Bool → Outcome
   clear_made side queue copied = decided now.site.pair (refuse_if (not copied) answer.OutOfTurn None) (answer.Cleared (lane_to now.site.pair side queue).cleared) (with_lane now.site.pair (other_side side) queue (flags_gone side queue))
@@ -101,7 +101,7 @@ module _ {devs : List DevPlan} {plan : PairPlan} {k : ℕ} (now : Standing devs 
   abbrev acks : Side → ℕ → Bool → ℕ → Move
   acks side queue cleared n = moves side queue (given side queue) cleared (of_ack (if cleared then Some n else None)) (index_posted (kept now).bridge side queue n)
 
-  clear_in_turn : (side : Side) (queue : ℕ) → queue < (side_plan plan side).queues → has_forgotten now.site.pair.link side ≡ false → is_copied (lane_to now.site.pair side queue).phase ≡ true
+  clear_in_turn : (side : Side) (queue : ℕ) → queue < (side_plan plan side).queues → has_link_forgotten now.site.pair.link side ≡ false → is_copied (lane_to now.site.pair side queue).phase ≡ true
       → Follows devs plan k now.site (Clear k side queue) (clear_made side queue true) (clears side queue true ((lane_to now.site.pair side queue).got - 1))
   clear_in_turn side queue among fresh is =
       let lane = lane_to now.site.pair side queue in
@@ -113,7 +113,7 @@ module _ {devs : List DevPlan} {plan : PairPlan} {k : ℕ} (now : Standing devs 
             (header_inside plan now.site now.pages now.spare side queue now.declared among (own_fits plan fits side) lane.cleared (flags_offset plan) 4 (fields_lie plan).flags),
       )
 
-  clear_by : (side : Side) (queue : ℕ) (forgotten : Bool) → queue < (side_plan plan side).queues → has_forgotten now.site.pair.link side ≡ forgotten
+  clear_by : (side : Side) (queue : ℕ) (forgotten : Bool) → queue < (side_plan plan side).queues → has_link_forgotten now.site.pair.link side ≡ forgotten
       → Follows devs plan k now.site (Clear k side queue) (clear_step now.site.pair side queue) (cleared_with side queue (port_queue now side queue forgotten))
   clear_by side queue true among forgot = rw (ap is_copied ((stands_by now side queue true among forgot).forgets refl).phase) (refl, as_it_was now side queue true among forgot)
   clear_by side queue false among fresh =
@@ -123,7 +123,7 @@ module _ {devs : List DevPlan} {plan : PairPlan} {k : ℕ} (now : Standing devs 
   pub clear_follows : (side : Side) (queue : ℕ) → queue < (side_plan plan side).queues → Follows devs plan k now.site (Clear k side queue) (clear_step now.site.pair side queue) (move_of devs (kept now) (Clear k side queue))
   clear_follows side queue among = by_queue now side queue (λ (q : QueueState). Follows devs plan k now.site (Clear k side queue) (clear_step now.site.pair side queue) (cleared_with side queue q)) among (λ forgotten. clear_by side queue forgotten among)
 
-  ack_in_turn : (side : Side) (queue : ℕ) → queue < (side_plan plan side).queues → has_forgotten now.site.pair.link side ≡ false → is_cleared (lane_to now.site.pair side queue).phase ≡ true
+  ack_in_turn : (side : Side) (queue : ℕ) → queue < (side_plan plan side).queues → has_link_forgotten now.site.pair.link side ≡ false → is_cleared (lane_to now.site.pair side queue).phase ≡ true
       → Follows devs plan k now.site (Ack k side queue) (ack_made side queue true) (acks side queue true ((lane_to now.site.pair side queue).got - 1))
   ack_in_turn side queue among fresh is =
       let lane = lane_to now.site.pair side queue in
@@ -139,7 +139,7 @@ module _ {devs : List DevPlan} {plan : PairPlan} {k : ℕ} (now : Standing devs 
             (index_posts (then_standing now _ _ first) side queue lane.acked among (fits_where plan is_cleared lane.phase refl is (stands_by now side queue false among fresh).receiving.fits)),
       )
 
-  ack_by : (side : Side) (queue : ℕ) (forgotten : Bool) → queue < (side_plan plan side).queues → has_forgotten now.site.pair.link side ≡ forgotten
+  ack_by : (side : Side) (queue : ℕ) (forgotten : Bool) → queue < (side_plan plan side).queues → has_link_forgotten now.site.pair.link side ≡ forgotten
       → Follows devs plan k now.site (Ack k side queue) (ack_step (reads now) now.site.pair side queue) (acked_with side queue (port_queue now side queue forgotten))
   ack_by side queue true among forgot = rw (ap is_cleared ((stands_by now side queue true among forgot).forgets refl).phase) (refl, as_it_was now side queue true among forgot)
   ack_by side queue false among fresh =

@@ -20,7 +20,7 @@ use Rattle.plan_numbers.specs.Memories.{memory_size}
 use Rattle.frame_ring.specs.Calls.{free_answer}
 use Rattle.queue_pair.specs.Queue.{QueueState}
 use Rattle.fabric_rule.specs.Parts.{QueuePart, with_queue}
-use Rattle.fabric_rule.specs.StandsFor.{IsOn, PairStands, has_forgotten}
+use Rattle.fabric_rule.specs.StandsFor.{IsOn, PairStands, has_link_forgotten}
 use Rattle.fabric_rule.proofs.Follows.{Follows, three_same}
 use Rattle.fabric_rule.proofs.OneQueue.{Standing, device_changes, is_queue, kept, part, reads, seen_word, unchanged}
 use Rattle.fabric_rule.proofs.WhatIsRead.{own_fits, same_word, word_inside}
@@ -50,7 +50,7 @@ module _ {devs : List DevPlan} {plan : PairPlan} {k : ℕ} (now : Standing devs 
   wakes_or_stays side queue false among is =
       (refl, device_changes now side queue false (part now side queue).counters (goes_on side queue) among refl ((now.sides side).queues queue among).counters (λ forgot. refl) (inl refl))
 
-  free_at : (side : Side) (queue : ℕ) → queue < (side_plan plan side).queues → SizesFit plan → has_forgotten now.site.pair.link side ≡ false → free_answer (part now side queue).queue.port (kept now).bridge ≡ (reads now).free side queue
+  free_at : (side : Side) (queue : ℕ) → queue < (side_plan plan side).queues → SizesFit plan → has_link_forgotten now.site.pair.link side ≡ false → free_answer (part now side queue).queue.port (kept now).bridge ≡ (reads now).free side queue
   free_at side queue among fits fresh =
       ap (λ (q : QueueState). free_answer q.port (kept now).bridge) (is_queue now side queue false among fresh)
       ∙ ap (λ inside. if inside then free_in_memory (sizes_of plan side queue).entries (head_in (sizes_of plan side queue) (lane_of now.site.pair side queue)) (seen_word now side queue) else 0)
@@ -65,7 +65,7 @@ module _ {devs : List DevPlan} {plan : PairPlan} {k : ℕ} (now : Standing devs 
   stays side queue d true among declared on is =
       let h = (now.sides side).queues queue among in
       let fits : SizesFit plan = ⊎_elim (λ goes. absurd (true≢false (sym is ∙ goes))) (λ fits. fits) h.stops in
-      let fresh : has_forgotten now.site.pair.link side ≡ false = ⊎_elim (λ forgot. absurd (true≢false (sym is ∙ (h.forgets forgot).goes_on))) (λ fresh. fresh) (cases_Bool (has_forgotten now.site.pair.link side)) in
+      let fresh : has_link_forgotten now.site.pair.link side ≡ false = ⊎_elim (λ forgot. absurd (true≢false (sym is ∙ (h.forgets forgot).goes_on))) (λ fresh. fresh) (cases_Bool (has_link_forgotten now.site.pair.link side)) in
       three_same (λ stopped free start. stopped && nat_lt free start) h.stopped (free_at side queue among fits fresh) (h.limits d declared on).1
 
   stays_means : (stopped rest : Bool) → (stopped && rest) ≡ true → stopped ≡ true

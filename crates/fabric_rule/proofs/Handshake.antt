@@ -28,8 +28,8 @@ use Rattle.ledger_model.specs.Outcome.{decided, refuse_if}
 use Rattle.ledger_model.specs.Memory.{Site}
 use Rattle.plan_numbers.specs.Memories.{memory_size}
 use Rattle.bridge_pair.specs.Bridge.{Bridge, with_book, with_memory}
-use Rattle.hand_shake.specs.Checks.{after_answer as after_check_answer, check_answer, unless_larger}
-use Rattle.hand_shake.specs.Offers.{after_answer as after_offer_answer, pad_value, offered}
+use Rattle.hand_shake.specs.Checks.{after_check_answer, check_answer, unless_larger}
+use Rattle.hand_shake.specs.Offers.{after_offer_answer, pad_value, offered}
 use Rattle.hand_shake.specs.Queues.{after_join_answer, after_ready_answer}
 use Rattle.hand_shake.specs.declared.CheckAnswer.{CheckAnswer}
 use Rattle.hand_shake.specs.declared.CheckAnswer.TheVariants as check
@@ -39,7 +39,7 @@ use Rattle.hand_shake.specs.declared.JoinAnswer.TheVariants as join
 use Rattle.fabric_rule.specs.Answers.{of_check, of_join, of_offer, of_ready}
 use Rattle.fabric_rule.specs.InPlace.{LinkInPlace}
 use Rattle.fabric_rule.specs.Parts.{PairState, QueuePart, with_bridge}
-use Rattle.fabric_rule.specs.StandsFor.{SideStands, book_for, bridge_for, has_forgotten, view_of, PairStands}
+use Rattle.fabric_rule.specs.StandsFor.{SideStands, book_for, bridge_for, has_link_forgotten, view_of, PairStands}
 use Rattle.bridge_pair.specs.declared.book.SideBook.{SideBook}
 use Rattle.bridge_pair.specs.Flights.{flying_of}
 use Rattle.bridge_pair.specs.Writes.{pad_write}
@@ -187,9 +187,9 @@ module _ (devs : List DevPlan) (plan : PairPlan) (k : ℕ) (site : Site) (pages 
   -- Join
 
   joins : (side : Side) (queue : ℕ) → is_up site.pair.link.state ≡ true
-      → SideStands devs plan k side (is_down site.pair.link.state) (has_forgotten site.pair.link side) (with_bit (side_of site.pair side).joined queue) (side_of site.pair side).flight (side_of site.pair side).poked (view_of site.pair side) (at_side queues side)
+      → SideStands devs plan k side (is_down site.pair.link.state) (has_link_forgotten site.pair.link side) (with_bit (side_of site.pair side).joined queue) (side_of site.pair side).flight (side_of site.pair side).poked (view_of site.pair side) (at_side queues side)
   joins side queue up =
-      let remembers : has_forgotten site.pair.link side ≡ false = ap (λ down. down && at_side site.pair.link.clean side) (not_down_up site.pair.link.state up) in
+      let remembers : has_link_forgotten site.pair.link side ≡ false = ap (λ down. down && at_side site.pair.link.clean side) (not_down_up site.pair.link.state up) in
       record {
         none_joined = λ forgotten. absurd (true≢false (sym forgotten ∙ remembers));
         in_flight = (sides side).in_flight;

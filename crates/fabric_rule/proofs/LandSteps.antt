@@ -22,12 +22,12 @@ use Rattle.ledger_model.specs.Receiving.{land_found, land_step, lands_on, taken_
 use Rattle.posted_queue.specs.Landing.{answer_for}
 use Rattle.plan_numbers.specs.Memories.{memory_size}
 use Rattle.bridge_pair.specs.Bridge.{with_flight}
-use Rattle.bridge_pair.specs.Calls.{after_landed, arrived}
+use Rattle.bridge_pair.specs.Calls.{after_landed, bridge_arrived}
 use Rattle.bridge_pair.specs.Ends.{label_landed}
 use Rattle.bridge_pair.specs.Flights.{Flying, flying_order}
 use Rattle.fabric_rule.specs.Answers.{of_land}
-use Rattle.fabric_rule.specs.InPlace.{IsBegun, LiesIn}
-use Rattle.fabric_rule.specs.StandsFor.{PairStands, SideStands, bridge_for, entry_among, flying_labelled, has_forgotten, sent_in, view_of, writes_labelled}
+use Rattle.fabric_rule.specs.InPlace.{IsLabelBegun, ArrivalLiesIn}
+use Rattle.fabric_rule.specs.StandsFor.{PairStands, SideStands, bridge_for, fabric_entry_among, flying_labelled, has_link_forgotten, sent_in, view_of, writes_labelled}
 use Rattle.fabric_rule.proofs.Arrivals.{bell_comes, bytes_come, pad_comes, unseen}
 use Rattle.fabric_rule.proofs.Flights.{all_get, all_remove, have-remove, label-write, labels-writes, orders-writes, poked_at, poked_left, writes-get, writes-remove}
 use Rattle.fabric_rule.proofs.Follows.{Follows, by_side, site_made}
@@ -42,19 +42,19 @@ no_value f (Some x) none = absurd (none-some (f x) (sym none))
 module _ {devs : List DevPlan} {plan : PairPlan} {k : ℕ} (now : Standing devs plan k) (place : ℕ) where
   -- a side without the write at a place
   taken_side : (side : Side) (label : Label) → slice_get (side_of now.site.pair side).flight place ≡ Some label
-      → SideStands devs plan k side (is_down now.site.pair.link.state) (has_forgotten now.site.pair.link side) (side_of now.site.pair side).joined (remove (side_of now.site.pair side).flight place)
+      → SideStands devs plan k side (is_down now.site.pair.link.state) (has_link_forgotten now.site.pair.link side) (side_of now.site.pair side).joined (remove (side_of now.site.pair side).flight place)
       (poked_left (side_of now.site.pair side).flight (side_of now.site.pair side).poked place label) (view_of now.site.pair side) (at_side now.queues side)
   taken_side side label at =
       let h = (now.sides side).in_flight in
       record {
         none_joined = (now.sides side).none_joined;
         in_flight = record {
-          begun = all_remove (IsBegun (sent_in (view_of now.site.pair side))) (side_of now.site.pair side).flight place h.begun;
+          begun = all_remove (IsLabelBegun (sent_in (view_of now.site.pair side))) (side_of now.site.pair side).flight place h.begun;
           raws = have-remove (side_of now.site.pair side).flight (side_of now.site.pair side).poked place label h.raws at;
           places =
-              subst (AllByRecursion (λ (flying : Flying). LiesIn (memory_size plan (other_side side)) flying.arrival))
+              subst (AllByRecursion (λ (flying : Flying). ArrivalLiesIn (memory_size plan (other_side side)) flying.arrival))
               (sym (writes-remove plan side (sent_in (view_of now.site.pair side)) (side_of now.site.pair side).flight (side_of now.site.pair side).poked place label h.raws at))
-              (all_remove (λ (flying : Flying). LiesIn (memory_size plan (other_side side)) flying.arrival)
+              (all_remove (λ (flying : Flying). ArrivalLiesIn (memory_size plan (other_side side)) flying.arrival)
               (writes_labelled plan side (sent_in (view_of now.site.pair side)) (side_of now.site.pair side).flight (side_of now.site.pair side).poked) place h.places);
           none = λ down. absurd (none-some label (ap (λ (flight : List Label). slice_get flight place) (sym (h.none down).0) ∙ at));
         };
@@ -76,13 +76,13 @@ module _ {devs : List DevPlan} {plan : PairPlan} {k : ℕ} (now : Standing devs 
   get : (side : Side) (label : Label) → slice_get (side_of now.site.pair side).flight place ≡ Some label → slice_get (all_writes side) place ≡ Some (flying_at side label)
   get side label at = writes-get plan side (sent_in (view_of now.site.pair side)) (side_of now.site.pair side).flight (side_of now.site.pair side).poked place label (now.sides side).in_flight.raws at
 
-  fit : (side : Side) (label : Label) → slice_get (side_of now.site.pair side).flight place ≡ Some label → LiesIn (memory_size plan (other_side side)) (flying_at side label).arrival
-  fit side label at = all_get (λ (flying : Flying). LiesIn (memory_size plan (other_side side)) flying.arrival) (all_writes side) place (flying_at side label) (now.sides side).in_flight.places (get side label at)
+  fit : (side : Side) (label : Label) → slice_get (side_of now.site.pair side).flight place ≡ Some label → ArrivalLiesIn (memory_size plan (other_side side)) (flying_at side label).arrival
+  fit side label at = all_get (λ (flying : Flying). ArrivalLiesIn (memory_size plan (other_side side)) flying.arrival) (all_writes side) place (flying_at side label) (now.sides side).in_flight.places (get side label at)
 
   abbrev Lands : Side → Label → Type 0
   Lands side label =
       PairStands devs plan k (site_made plan now.site (Land k side place) (record { answer = answer.Landed label; after = lands_on (taken_out now.site.pair side place label) side label }))
-      (record (kept now) { bridge = arrived (with_flight (kept now).bridge side (record { writes = remove (all_writes side) place; spare = at_side now.spare side })) (other_side side) (flying_at side label).arrival })
+      (record (kept now) { bridge = bridge_arrived (with_flight (kept now).bridge side (record { writes = remove (all_writes side) place; spare = at_side now.spare side })) (other_side side) (flying_at side label).arrival })
 
   -- the move by the write that is found, and whether it may land
   abbrev landed : Side → Option Flying → Bool → Move
@@ -136,7 +136,7 @@ module _ {devs : List DevPlan} {plan : PairPlan} {k : ℕ} (now : Standing devs 
   land_may : (side : Side) (label : Label) (may : Bool) → slice_get (side_of now.site.pair side).flight place ≡ Some label → Follows devs plan k now.site (Land k side place) (land_made side label may) (landed side (Some (flying_at side label)) may)
   land_may side label false at = (refl, still_there side)
   land_may side label true at =
-      (ap answer.Landed (label-write plan side (entry_among (sent_in (view_of now.site.pair side)) label) (poked_at (side_of now.site.pair side).flight (side_of now.site.pair side).poked place) label), lands side label at)
+      (ap answer.Landed (label-write plan side (fabric_entry_among (sent_in (view_of now.site.pair side)) label) (poked_at (side_of now.site.pair side).flight (side_of now.site.pair side).poked place) label), lands side label at)
 
   land_by : (side : Side) (found : Option Label) → slice_get (side_of now.site.pair side).flight place ≡ found
       → Follows devs plan k now.site (Land k side place) (land_found plan now.site.pair side place found) (landed side (slice_get (all_writes side) place) (may_land (map flying_order (all_writes side)) place))

@@ -31,8 +31,8 @@ use Rattle.ledger_model.specs.Memory.{Site}
 use Rattle.bridge_pair.specs.Bridge.{Bridge, with_link}
 use Rattle.bridge_pair.specs.Links.{after_step, cleaned, dropped}
 use Rattle.fabric_rule.specs.Answers.{of_link, of_refusal}
-use Rattle.fabric_rule.specs.InPlace.{FlightInPlace, LinkInPlace, receiver_of, sender_of}
-use Rattle.fabric_rule.specs.StandsFor.{QueueStands, QueueView, SideStands, all_sent, bridge_with, sent_of, has_forgotten, port_for, sent_in, view_of, writes_labelled}
+use Rattle.fabric_rule.specs.InPlace.{FlightInPlace, LinkInPlace, fabric_receiver_of, fabric_sender_of}
+use Rattle.fabric_rule.specs.StandsFor.{QueueStands, QueueView, SideStands, all_sent, bridge_with, sent_of, has_link_forgotten, port_for, sent_in, view_of, writes_labelled}
 use Rattle.fabric_rule.specs.Parts.{QueuePart, PairState, no_queue, with_bridge}
 use Rattle.fabric_rule.proofs.Follows.{AllSides, Follows, by_side, state_for}
 use Rattle.fabric_rule.specs.Moves.{Move, forgotten, forgotten_queue, move_of}
@@ -96,7 +96,7 @@ none_in_flight plan side down sent = record { begun = tt; raws = tt; places = tt
 
 -- a queue in a fresh session
 pub fresh_queue_stands : (devs : List DevPlan) (plan : PairPlan) (k : ℕ) (side : Side) (queue : ℕ) (view : QueueView) (part : QueuePart) → QueueStands devs plan k side queue true view part
-    → QueueStands devs plan k side queue false (record view { sends = sender_of fresh_lane; receives = receiver_of fresh_lane }) part
+    → QueueStands devs plan k side queue false (record view { sends = fabric_sender_of fresh_lane; receives = fabric_receiver_of fresh_lane }) part
 fresh_queue_stands devs plan k side queue view part h =
     record {
       port = h.port ∙ ap port_at (sym (ap (λ (port : PortState). port.sending.entry) h.port));
@@ -114,7 +114,7 @@ fresh_queue_stands devs plan k side queue view part h =
     }
   where
     port_at : Entry → PortState
-    port_at entry = port_for plan side queue false (record view { sends = sender_of fresh_lane; receives = receiver_of fresh_lane }) entry
+    port_at entry = port_for plan side queue false (record view { sends = fabric_sender_of fresh_lane; receives = fabric_receiver_of fresh_lane }) entry
 
 -- a port is of its queue
 port_plan : (plan : PairPlan) (side : Side) (queue : ℕ) (forgotten : Bool) (view : QueueView) (entry : Entry) (port : PortState) → port ≡ port_for plan side queue forgotten view entry
@@ -195,9 +195,9 @@ module _ (devs : List DevPlan) (plan : PairPlan) (k : ℕ) (site : Site) (pages 
 
   -- Train
 
-  trained_side : (side : Side) → is_down site.pair.link.state ≡ true → has_forgotten site.pair.link side ≡ true
+  trained_side : (side : Side) → is_down site.pair.link.state ≡ true → has_link_forgotten site.pair.link side ≡ true
       → SideStands devs plan k side false false (side_of site.pair side).joined (side_of site.pair side).flight (side_of site.pair side).poked
-      (λ queue. record (view_of site.pair side queue) { sends = sender_of fresh_lane; receives = receiver_of fresh_lane }) (at_side queues side)
+      (λ queue. record (view_of site.pair side queue) { sends = fabric_sender_of fresh_lane; receives = fabric_receiver_of fresh_lane }) (at_side queues side)
   trained_side side down forgotten =
       let stands : SideStands devs plan k side true true (side_of site.pair side).joined (side_of site.pair side).flight (side_of site.pair side).poked (view_of site.pair side) (at_side queues side) =
       side_by devs plan k side _ true _ true _ _ _ _ _ down forgotten (sides side) in
@@ -224,7 +224,7 @@ module _ (devs : List DevPlan) (plan : PairPlan) (k : ℕ) (site : Site) (pages 
       down : is_down site.pair.link.state ≡ true
       down = enabled.0
 
-      forgot : (side : Side) → at_side site.pair.link.enabled side ≡ true → has_forgotten site.pair.link side ≡ true
+      forgot : (side : Side) → at_side site.pair.link.enabled side ≡ true → has_link_forgotten site.pair.link side ≡ true
       forgot side agreed = ap (λ b. b && at_side site.pair.link.clean side) down ∙ link side down agreed
 
       none : (side : Side) → ((side_of site.pair side).flight ≡ []) × ((side_of site.pair side).poked ≡ [])
@@ -242,7 +242,7 @@ module _ (devs : List DevPlan) (plan : PairPlan) (k : ℕ) (site : Site) (pages 
 
   -- Break
 
-  not_forgotten : (side : Side) → is_down site.pair.link.state ≡ false → has_forgotten site.pair.link side ≡ false
+  not_forgotten : (side : Side) → is_down site.pair.link.state ≡ false → has_link_forgotten site.pair.link side ≡ false
   not_forgotten side down = ap (λ b. b && at_side site.pair.link.clean side) down
 
   not_forgetting : (side : Side) → is_down site.pair.link.state ≡ false
@@ -291,7 +291,7 @@ module _ (devs : List DevPlan) (plan : PairPlan) (k : ℕ) (site : Site) (pages 
         queues = λ queue among.
             let within : queue < length (at_side queues side) = subst (λ n. queue < n) (sym (sides side).all_queues) among in
             subst (QueueStands devs plan k side queue true (record (forgets_view (view_of site.pair side queue)) { closed = has_bit 0 queue })) (sym (get_or-map forgotten_queue (at_side queues side) queue no_queue no_queue within))
-            (forgotten_queue_stands devs plan k side queue (has_forgotten site.pair.link side) (view_of site.pair side queue) (slice_index_or (at_side queues side) queue no_queue) ((sides side).queues queue among));
+            (forgotten_queue_stands devs plan k side queue (has_link_forgotten site.pair.link side) (view_of site.pair side queue) (slice_index_or (at_side queues side) queue no_queue) ((sides side).queues queue among));
       })
 
   cleaned_in_place : (side : Side) → LinkInPlace (cleaned_link site.pair.link side)

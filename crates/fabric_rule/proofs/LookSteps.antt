@@ -23,14 +23,14 @@ use Rattle.ledger_model.specs.Memory.{bytes_of_site}
 use Rattle.frame_ring.specs.Port.{Receiving, fresh_port, with_receiving}
 use Rattle.frame_ring.specs.Calls.{entry_found, found_seen, look_found}
 use Rattle.frame_ring.specs.declared.RingLook.TheVariants.{OutOfTurn as RingOutOfTurn}
-use Rattle.queue_pair.specs.Gates.{after_look_answer, answer_of_look, look_answer, after_look}
+use Rattle.queue_pair.specs.Gates.{after_look_answer, answer_of_look, look_answer, queue_after_look}
 use Rattle.queue_pair.specs.Queue.{QueueState}
 use Rattle.queue_pair.specs.declared.LookAnswer.{LookAnswer}
 use Rattle.queue_pair.specs.declared.LookAnswer.TheVariants.{NotReady as NotJoined, Closed as QueueClosed}
 use Rattle.fabric_rule.specs.Answers.{of_look}
 use Rattle.fabric_rule.specs.InPlace.{CountsOfPhase}
 use Rattle.fabric_rule.specs.Parts.{with_queue}
-use Rattle.fabric_rule.specs.StandsFor.{has_forgotten}
+use Rattle.fabric_rule.specs.StandsFor.{has_link_forgotten}
 use Rattle.std.proofs.lemmas.List.{append-nil}
 use Rattle.step_kinds.specs.Sides.{other_side}
 use Rattle.fabric_rule.proofs.Changes.{one_closes, stays}
@@ -73,9 +73,9 @@ module _ {devs : List DevPlan} {plan : PairPlan} {k : ℕ} (now : Standing devs 
 
   -- the move of a look by its queue pair
   abbrev looked_with : Side → ℕ → QueueState → Move
-  looked_with side queue q = record { answer = of_look (look_answer q (kept now).bridge); after = with_queue (kept now) side queue (part_with now side queue (after_look q (kept now).bridge)) }
+  looked_with side queue q = record { answer = of_look (look_answer q (kept now).bridge); after = with_queue (kept now) side queue (part_with now side queue (queue_after_look q (kept now).bridge)) }
 
-  look_at_entry : (side : Side) (queue : ℕ) (closed idle : Bool) (found : Found) → queue < (side_plan plan side).queues → has_forgotten now.site.pair.link side ≡ false → is_idle (lane_to now.site.pair side queue).phase ≡ idle → SizesFit plan
+  look_at_entry : (side : Side) (queue : ℕ) (closed idle : Bool) (found : Found) → queue < (side_plan plan side).queues → has_link_forgotten now.site.pair.link side ≡ false → is_idle (lane_to now.site.pair side queue).phase ≡ idle → SizesFit plan
       → ((len left : ℕ) → found ≡ AnEntry len left → len ≤ max_payload_of (layout_to plan side queue)) → LookFollows side queue (port_queue now side queue false) true closed idle idle found found
   look_at_entry side queue true idle found among fresh is fits short = (refl, as_it_was now side queue false among fresh)
   look_at_entry side queue false false found among fresh is fits short = (refl, as_it_was now side queue false among fresh)
@@ -98,7 +98,7 @@ module _ {devs : List DevPlan} {plan : PairPlan} {k : ℕ} (now : Standing devs 
             (record { counts = λ _. idle_counts lane.phase lane.acked lane.cleared lane.got is ((stands_by now side queue false among fresh).receiving.counts refl); fits = inr fits; len = λ _. short len left refl }),
       )
 
-  look_joined : (side : Side) (queue : ℕ) (joined : Bool) (seen : Found) → queue < (side_plan plan side).queues → has_forgotten now.site.pair.link side ≡ false → has_bit (side_of now.site.pair side).joined queue ≡ joined → (joined ≡ true → SizesFit plan)
+  look_joined : (side : Side) (queue : ℕ) (joined : Bool) (seen : Found) → queue < (side_plan plan side).queues → has_link_forgotten now.site.pair.link side ≡ false → has_bit (side_of now.site.pair side).joined queue ≡ joined → (joined ≡ true → SizesFit plan)
       → (SizesFit plan → seen ≡ (reads now).found side queue)
       → LookFollows side queue (port_queue now side queue false) joined (has_bit (side_of now.site.pair side).closed queue) (is_idle (lane_to now.site.pair side queue).phase) (is_idle (lane_to now.site.pair side queue).phase) ((reads now).found side queue) seen
   look_joined side queue false seen among fresh is fits same =
@@ -114,7 +114,7 @@ module _ {devs : List DevPlan} {plan : PairPlan} {k : ℕ} (now : Standing devs 
       let q = port_queue now side queue forgotten in
       Follows devs plan k now.site (Look k side queue) (look_step (reads now) now.site.pair side queue) (looked side queue q joined q.closed (is_idle q.port.receiving.phase) (found_seen q.port (kept now).bridge))
 
-  look_by : (side : Side) (queue : ℕ) (forgotten : Bool) → queue < (side_plan plan side).queues → has_forgotten now.site.pair.link side ≡ forgotten → (has_bit (side_of now.site.pair side).joined queue ≡ true → SizesFit plan)
+  look_by : (side : Side) (queue : ℕ) (forgotten : Bool) → queue < (side_plan plan side).queues → has_link_forgotten now.site.pair.link side ≡ forgotten → (has_bit (side_of now.site.pair side).joined queue ≡ true → SizesFit plan)
       → Follows devs plan k now.site (Look k side queue) (look_step (reads now) now.site.pair side queue) (looked_with side queue (port_queue now side queue forgotten))
   look_by side queue true among forgot fits =
       subst (LookSeen side queue true) (sym (joined_is now side queue))

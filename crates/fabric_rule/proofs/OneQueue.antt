@@ -19,9 +19,9 @@ use Rattle.frame_ring.specs.PortView.{bytes_seen}
 use Rattle.queue_pair.specs.Queue.{QueueState, with_port}
 use Rattle.lane_model.specs.Lane.{Entry}
 use Rattle.bridge_pair.specs.Bridge.{Bridge, book_of}
-use Rattle.fabric_rule.specs.InPlace.{LinkInPlace, SendingEnd, receiver_of, sender_of, ReceivingInPlace, SendingInPlace, last_entry}
+use Rattle.fabric_rule.specs.InPlace.{LinkInPlace, SendingEnd, fabric_receiver_of, fabric_sender_of, ReceivingInPlace, SendingInPlace, last_entry}
 use Rattle.fabric_rule.specs.Parts.{PairState, QueuePart, no_queue, with_queue, SessionCount, count_in}
-use Rattle.fabric_rule.specs.StandsFor.{PairStands, QueueStands, bridge_with, has_forgotten, port_for, sent_of, view_of, QueueView, SideStands, all_sent, bridge_for, is_left, sending_for, writes_labelled}
+use Rattle.fabric_rule.specs.StandsFor.{PairStands, QueueStands, bridge_with, has_link_forgotten, port_for, sent_of, view_of, QueueView, SideStands, all_sent, bridge_for, is_left, sending_for, writes_labelled}
 use Rattle.fabric_rule.proofs.Follows.{with_promises, AllSides, state_for, by_end, by_side, same_at, two_same}
 use Rattle.fabric_rule.proofs.Links.{no_bits, bridge_same}
 use Rattle.fabric_rule.proofs.Queues.{queue_is, set_again, other_dev, side_at, side_same}
@@ -67,10 +67,10 @@ module _ {devs : List DevPlan} {plan : PairPlan} {k : ℕ} (now : Standing devs 
   abbrev pub seen_word : Side → ℕ → ℕ
   seen_word side queue = index_word_in plan (bytes_seen kept.bridge) side queue
 
-  pub is_queue : (side : Side) (queue : ℕ) (forgotten : Bool) → queue < (side_plan plan side).queues → has_forgotten now.site.pair.link side ≡ forgotten → (part side queue).queue ≡ port_queue side queue forgotten
-  is_queue side queue forgotten among is = queue_is devs plan k side queue (has_forgotten now.site.pair.link side) forgotten (view_of now.site.pair side queue) (part side queue) is ((now.sides side).queues queue among)
+  pub is_queue : (side : Side) (queue : ℕ) (forgotten : Bool) → queue < (side_plan plan side).queues → has_link_forgotten now.site.pair.link side ≡ forgotten → (part side queue).queue ≡ port_queue side queue forgotten
+  is_queue side queue forgotten among is = queue_is devs plan k side queue (has_link_forgotten now.site.pair.link side) forgotten (view_of now.site.pair side queue) (part side queue) is ((now.sides side).queues queue among)
 
-  pub stands_by : (side : Side) (queue : ℕ) (forgotten : Bool) → queue < (side_plan plan side).queues → has_forgotten now.site.pair.link side ≡ forgotten → QueueStands devs plan k side queue forgotten (view_of now.site.pair side queue) (part side queue)
+  pub stands_by : (side : Side) (queue : ℕ) (forgotten : Bool) → queue < (side_plan plan side).queues → has_link_forgotten now.site.pair.link side ≡ forgotten → QueueStands devs plan k side queue forgotten (view_of now.site.pair side queue) (part side queue)
   stands_by side queue forgotten among is = subst (λ f. QueueStands devs plan k side queue f (view_of now.site.pair side queue) (part side queue)) is ((now.sides side).queues queue among)
 
   -- the bridge's book has the queues that the side joined
@@ -88,12 +88,12 @@ module _ {devs : List DevPlan} {plan : PairPlan} {k : ℕ} (now : Standing devs 
       subst (λ (q : QueueState). PairStands devs plan k now.site (with_queue kept side queue (part_with side queue q))) is
       (subst (PairStands devs plan k now.site) (sym (set_again kept side queue)) stands_now)
 
-  pub as_it_was : (side : Side) (queue : ℕ) (forgotten : Bool) → queue < (side_plan plan side).queues → has_forgotten now.site.pair.link side ≡ forgotten → PairStands devs plan k now.site (with_queue kept side queue (part_with side queue (port_queue side queue forgotten)))
+  pub as_it_was : (side : Side) (queue : ℕ) (forgotten : Bool) → queue < (side_plan plan side).queues → has_link_forgotten now.site.pair.link side ≡ forgotten → PairStands devs plan k now.site (with_queue kept side queue (part_with side queue (port_queue side queue forgotten)))
   as_it_was side queue forgotten among is = unchanged side queue (port_queue side queue forgotten) (is_queue side queue forgotten among is)
 
   -- what holds by the queue pair, whether its side has forgotten its session or not
-  pub by_queue : (side : Side) (queue : ℕ) (P : QueueState → Type 0) → queue < (side_plan plan side).queues → ((forgotten : Bool) → has_forgotten now.site.pair.link side ≡ forgotten → P (port_queue side queue forgotten)) → P (part side queue).queue
-  by_queue side queue P among holds = subst P (sym (is_queue side queue (has_forgotten now.site.pair.link side) among refl)) (holds (has_forgotten now.site.pair.link side) refl)
+  pub by_queue : (side : Side) (queue : ℕ) (P : QueueState → Type 0) → queue < (side_plan plan side).queues → ((forgotten : Bool) → has_link_forgotten now.site.pair.link side ≡ forgotten → P (port_queue side queue forgotten)) → P (part side queue).queue
+  by_queue side queue P among holds = subst P (sym (is_queue side queue (has_link_forgotten now.site.pair.link side) among refl)) (holds (has_link_forgotten now.site.pair.link side) refl)
 
   -- the pair after a step that left the bridge's bytes, and what holds of its bridge
   abbrev pub then_standing : (pair : PairPart) (queues : Both (List QueuePart)) → PairStands devs plan k (record now.site { pair = pair }) (record kept { queues = queues }) → Standing devs plan k
@@ -103,7 +103,7 @@ module _ {devs : List DevPlan} {plan : PairPlan} {k : ℕ} (now : Standing devs 
   by_bridge pair queues P stands holds = subst P (sym (ap (λ (bridge : Bridge). with_promises bridge now.pages now.spare) stands.bridge)) holds
 
   -- a side that has forgotten its session has no queue joined
-  pub no_joined : (side : Side) (queue : ℕ) → has_forgotten now.site.pair.link side ≡ true → has_bit (side_of now.site.pair side).joined queue ≡ false
+  pub no_joined : (side : Side) (queue : ℕ) → has_link_forgotten now.site.pair.link side ≡ true → has_bit (side_of now.site.pair side).joined queue ≡ false
   no_joined side queue forgot = ap (λ bits. has_bit bits queue) ((now.sides side).none_joined forgot) ∙ no_bits queue
 
   -- What a step on one queue of one side changes: that queue, and nothing that the peer sees of others
@@ -116,8 +116,8 @@ module _ {devs : List DevPlan} {plan : PairPlan} {k : ℕ} (now : Standing devs 
   abbrev view_by : Side → Side → Both SidePart → Both (ℕ → LanePart) → Both (ℕ → DevPart) → Both (ℕ → ℕ → Tally) → ℕ → QueueView
   view_by side peer sides lanes devices tallies queue =
       record {
-        sends = sender_of (at_side lanes side queue);
-        receives = receiver_of (at_side lanes peer queue);
+        sends = fabric_sender_of (at_side lanes side queue);
+        receives = fabric_receiver_of (at_side lanes peer queue);
         dev = at_side devices side queue;
         accepted = λ session. (at_side tallies side queue session).accepted;
         delivered = λ session. (at_side tallies peer queue session).delivered;
@@ -141,14 +141,14 @@ module _ {devs : List DevPlan} {plan : PairPlan} {k : ℕ} (now : Standing devs 
     -- a side by the parts of the pair that was
     abbrev StandsThen : Side → SidePart → List QueuePart → Type 0
     StandsThen s own parts =
-        SideStands devs plan k s (is_down now.site.pair.link.state) (has_forgotten now.site.pair.link s) own.joined own.flight own.poked (view_of (pair_with sides lanes devices tallies) s) parts
+        SideStands devs plan k s (is_down now.site.pair.link.state) (has_link_forgotten now.site.pair.link s) own.joined own.flight own.poked (view_of (pair_with sides lanes devices tallies) s) parts
 
     -- a side that sees all its queues as they were, and one that sees all but this
     sees : (s : Side) → ((other : ℕ) → view_of (pair_with sides lanes devices tallies) s other ≡ view_of now.site.pair s other) → StandsThen s (at_side sides s) (at_side now.queues s)
     sees s same = subst (λ (own : SidePart). StandsThen s own (at_side now.queues s)) (sym (alike s)) (side_same devs plan k s _ _ _ _ _ (view_of now.site.pair s) _ (at_side now.queues s) same (now.sides s))
 
     sees_but : (s : Side) (queue : ℕ) (new : QueuePart) → queue < (side_plan plan s).queues → ((other : ℕ) → (other ≡ queue → ⊥) → view_of (pair_with sides lanes devices tallies) s other ≡ view_of now.site.pair s other)
-        → QueueStands devs plan k s queue (has_forgotten now.site.pair.link s) (view_of (pair_with sides lanes devices tallies) s queue) new → StandsThen s (at_side sides s) (slice_set (at_side now.queues s) queue new)
+        → QueueStands devs plan k s queue (has_link_forgotten now.site.pair.link s) (view_of (pair_with sides lanes devices tallies) s queue) new → StandsThen s (at_side sides s) (slice_set (at_side now.queues s) queue new)
     sees_but s queue new among others own =
         subst (λ (own : SidePart). StandsThen s own (slice_set (at_side now.queues s) queue new)) (sym (alike s))
         (side_at devs plan k s _ _ _ _ _ _ _ (view_of now.site.pair s) _ (at_side now.queues s) queue new among others
@@ -158,7 +158,7 @@ module _ {devs : List DevPlan} {plan : PairPlan} {k : ℕ} (now : Standing devs 
     one_changes : (side : Side) (queue : ℕ) (new : QueuePart) → queue < (side_plan plan side).queues
         → ((other : ℕ) → (other ≡ queue → ⊥) → view_by side (other_side side) sides lanes devices tallies other ≡ view_now side (other_side side) other)
         → ((other : ℕ) → view_by (other_side side) side sides lanes devices tallies other ≡ view_now (other_side side) side other)
-        → QueueStands devs plan k side queue (has_forgotten now.site.pair.link side) (view_by side (other_side side) sides lanes devices tallies queue) new
+        → QueueStands devs plan k side queue (has_link_forgotten now.site.pair.link side) (view_by side (other_side side) sides lanes devices tallies queue) new
         → PairStands devs plan k (record now.site { pair = pair_with sides lanes devices tallies }) (with_queue kept side queue new)
     one_changes A queue new among others peers own = record { bridge = bridge_then; link = now.link; sides = by_side _ (sees_but A queue new among others own) (sees B peers) }
     one_changes B queue new among others peers own = record { bridge = bridge_then; link = now.link; sides = by_side _ (sees A peers) (sees_but B queue new among others own) }
@@ -168,33 +168,33 @@ module _ {devs : List DevPlan} {plan : PairPlan} {k : ℕ} (now : Standing devs 
       (side : Side) (queue : ℕ) (more : List Entry) (new : QueuePart) → queue < (side_plan plan side).queues
       → OneCloses side (other_side side) queue now.site.pair.sides sides closed → OneChanges side (other_side side) queue now.site.pair.lanes lanes lane
       → OneChanges side (other_side side) queue now.site.pair.devs devices dev → OneChanges side (other_side side) queue now.site.pair.tallies tallies tally
-      → lane.sent ≡ (lane_of now.site.pair side queue).sent ++ more → receiver_of lane ≡ receiver_of (lane_of now.site.pair side queue)
+      → lane.sent ≡ (lane_of now.site.pair side queue).sent ++ more → fabric_receiver_of lane ≡ fabric_receiver_of (lane_of now.site.pair side queue)
       → ((session : ℕ) → (tally session).delivered ≡ (tally_of now.site.pair side queue session).delivered)
-      → QueueStands devs plan k side queue (has_forgotten now.site.pair.link side) (record (view_of now.site.pair side queue) { sends = sender_of lane; dev = dev; accepted = λ session. (tally session).accepted; closed = closed }) new
+      → QueueStands devs plan k side queue (has_link_forgotten now.site.pair.link side) (record (view_of now.site.pair side queue) { sends = fabric_sender_of lane; dev = dev; accepted = λ session. (tally session).accepted; closed = closed }) new
       → PairStands devs plan k (record now.site { pair = pair_with sides lanes devices tallies }) (with_queue kept side queue new)
   sender_changes {sides = sides} {lanes = lanes} {devices = devices} {tallies = tallies} side queue more new among closes of_lane of_dev of_tally grown receives delivered own =
       one_changes sides lanes devices tallies closes.alike
       (by_end (λ s. SentGrows (sent_of (at_side now.site.pair.lanes s)) (sent_of (at_side lanes s))) side (grows_at more of_lane grown) (peer_grows of_lane)) side queue new among
       (λ other ne i. record {
-        sends = sender_of (of_lane.others other ne i);
-        receives = receiver_of (of_lane.peers other i);
+        sends = fabric_sender_of (of_lane.others other ne i);
+        receives = fabric_receiver_of (of_lane.peers other i);
         dev = of_dev.others other ne i;
         accepted = λ session. (of_tally.others other ne i session).accepted;
         delivered = λ session. (of_tally.peers other i session).delivered;
         closed = closes.others other ne i;
       })
       (λ other i. record {
-        sends = sender_of (of_lane.peers other i);
-        receives = same_read receiver_of of_lane receives other i;
+        sends = fabric_sender_of (of_lane.peers other i);
+        receives = same_read fabric_receiver_of of_lane receives other i;
         dev = of_dev.peers other i;
         accepted = λ session. (of_tally.peers other i session).accepted;
         delivered = same_read (λ (tally : ℕ → Tally). λ session. (tally session).delivered) of_tally (same_at delivered) other i;
         closed = closes.peers other i;
       })
-      (subst (λ (view : QueueView). QueueStands devs plan k side queue (has_forgotten now.site.pair.link side) view new)
+      (subst (λ (view : QueueView). QueueStands devs plan k side queue (has_link_forgotten now.site.pair.link side) view new)
       (λ i. record {
-        sends = sender_of (sym of_lane.here i);
-        receives = receiver_of (sym (of_lane.peers queue) i);
+        sends = fabric_sender_of (sym of_lane.here i);
+        receives = fabric_receiver_of (sym (of_lane.peers queue) i);
         dev = sym of_dev.here i;
         accepted = λ session. (sym of_tally.here i session).accepted;
         delivered = λ session. (sym (of_tally.peers queue) i session).delivered;
@@ -205,32 +205,32 @@ module _ {devs : List DevPlan} {plan : PairPlan} {k : ℕ} (now : Standing devs 
   pub receiver_changes : {lanes : Both (ℕ → LanePart)} {devices : Both (ℕ → DevPart)} {tallies : Both (ℕ → ℕ → Tally)} {lane : LanePart} {dev : DevPart} {tally : ℕ → Tally}
       (side : Side) (queue : ℕ) (new : QueuePart) → queue < (side_plan plan side).queues
       → OneChanges (other_side side) side queue now.site.pair.lanes lanes lane → OneChanges side (other_side side) queue now.site.pair.devs devices dev → OneChanges (other_side side) side queue now.site.pair.tallies tallies tally
-      → sender_of lane ≡ sender_of (lane_to now.site.pair side queue) → ((session : ℕ) → (tally session).accepted ≡ (tally_of now.site.pair (other_side side) queue session).accepted)
-      → QueueStands devs plan k side queue (has_forgotten now.site.pair.link side) (record (view_of now.site.pair side queue) { receives = receiver_of lane; dev = dev; delivered = λ session. (tally session).delivered }) new
+      → fabric_sender_of lane ≡ fabric_sender_of (lane_to now.site.pair side queue) → ((session : ℕ) → (tally session).accepted ≡ (tally_of now.site.pair (other_side side) queue session).accepted)
+      → QueueStands devs plan k side queue (has_link_forgotten now.site.pair.link side) (record (view_of now.site.pair side queue) { receives = fabric_receiver_of lane; dev = dev; delivered = λ session. (tally session).delivered }) new
       → PairStands devs plan k (record now.site { pair = pair_with now.site.pair.sides lanes devices tallies }) (with_queue kept side queue new)
   receiver_changes {lanes = lanes} {devices = devices} {tallies = tallies} side queue new among of_lane of_dev of_tally sends accepted own =
       one_changes now.site.pair.sides lanes devices tallies (λ s. refl)
       (by_end (λ s. SentGrows (sent_of (at_side now.site.pair.lanes s)) (sent_of (at_side lanes s))) side (peer_grows of_lane) (grows_at [] of_lane (ap (λ (s : SendingEnd). s.sent) sends ∙ sym (append-nil (lane_to now.site.pair side queue).sent)))) side queue new among
       (λ other ne i. record {
-        sends = sender_of (of_lane.peers other i);
-        receives = receiver_of (of_lane.others other ne i);
+        sends = fabric_sender_of (of_lane.peers other i);
+        receives = fabric_receiver_of (of_lane.others other ne i);
         dev = of_dev.others other ne i;
         accepted = λ session. (of_tally.peers other i session).accepted;
         delivered = λ session. (of_tally.others other ne i session).delivered;
         closed = has_bit (side_of now.site.pair side).closed other;
       })
       (λ other i. record {
-        sends = same_read sender_of of_lane sends other i;
-        receives = receiver_of (of_lane.peers other i);
+        sends = same_read fabric_sender_of of_lane sends other i;
+        receives = fabric_receiver_of (of_lane.peers other i);
         dev = of_dev.peers other i;
         accepted = same_read (λ (tally : ℕ → Tally). λ session. (tally session).accepted) of_tally (same_at accepted) other i;
         delivered = λ session. (of_tally.peers other i session).delivered;
         closed = has_bit (at_side now.site.pair.sides (other_side side)).closed other;
       })
-      (subst (λ (view : QueueView). QueueStands devs plan k side queue (has_forgotten now.site.pair.link side) view new)
+      (subst (λ (view : QueueView). QueueStands devs plan k side queue (has_link_forgotten now.site.pair.link side) view new)
       (λ i. record {
-        sends = sender_of (sym (of_lane.peers queue) i);
-        receives = receiver_of (sym of_lane.here i);
+        sends = fabric_sender_of (sym (of_lane.peers queue) i);
+        receives = fabric_receiver_of (sym of_lane.here i);
         dev = sym of_dev.here i;
         accepted = λ session. (sym (of_tally.peers queue) i session).accepted;
         delivered = λ session. (sym of_tally.here i session).delivered;
@@ -241,13 +241,13 @@ module _ {devs : List DevPlan} {plan : PairPlan} {k : ℕ} (now : Standing devs 
 
   -- its receiver is at another place
   abbrev pub received_part : Side → ℕ → LanePart → QueuePart
-  received_part side queue lane = part_with side queue (with_port (port_queue side queue false) (with_receiving (port_queue side queue false).port (receiver_of lane).port))
+  received_part side queue lane = part_with side queue (with_port (port_queue side queue false) (with_receiving (port_queue side queue false).port (fabric_receiver_of lane).port))
 
-  pub received_stands : (side : Side) (queue : ℕ) (lane : LanePart) (dev : DevPart) (counters : Counters) (delivered : List SessionCount) (seen_delivered : ℕ → ℕ) → queue < (side_plan plan side).queues → has_forgotten now.site.pair.link side ≡ false
-      → dev.stopped ≡ (dev_of now.site.pair side queue).stopped → counters ≡ dev.counters → ((session : ℕ) → count_in delivered session ≡ seen_delivered session) → ReceivingInPlace plan side queue false (receiver_of lane)
-      → QueueStands devs plan k side queue (has_forgotten now.site.pair.link side) (record (view_of now.site.pair side queue) { receives = receiver_of lane; dev = dev; delivered = seen_delivered }) (record (received_part side queue lane) { counters = counters; delivered = delivered })
+  pub received_stands : (side : Side) (queue : ℕ) (lane : LanePart) (dev : DevPart) (counters : Counters) (delivered : List SessionCount) (seen_delivered : ℕ → ℕ) → queue < (side_plan plan side).queues → has_link_forgotten now.site.pair.link side ≡ false
+      → dev.stopped ≡ (dev_of now.site.pair side queue).stopped → counters ≡ dev.counters → ((session : ℕ) → count_in delivered session ≡ seen_delivered session) → ReceivingInPlace plan side queue false (fabric_receiver_of lane)
+      → QueueStands devs plan k side queue (has_link_forgotten now.site.pair.link side) (record (view_of now.site.pair side queue) { receives = fabric_receiver_of lane; dev = dev; delivered = seen_delivered }) (record (received_part side queue lane) { counters = counters; delivered = delivered })
   received_stands side queue lane dev counters delivered seen_delivered among fresh goes counted counts in_place =
-      subst (λ f. QueueStands devs plan k side queue f (record (view_of now.site.pair side queue) { receives = receiver_of lane; dev = dev; delivered = seen_delivered }) (record (received_part side queue lane) { counters = counters; delivered = delivered })) (sym fresh)
+      subst (λ f. QueueStands devs plan k side queue f (record (view_of now.site.pair side queue) { receives = fabric_receiver_of lane; dev = dev; delivered = seen_delivered }) (record (received_part side queue lane) { counters = counters; delivered = delivered })) (sym fresh)
       (let old = stands_by side queue false among fresh in
       record {
         port = refl;
@@ -264,8 +264,8 @@ module _ {devs : List DevPlan} {plan : PairPlan} {k : ℕ} (now : Standing devs 
         stops = subst (λ stopped. (stopped ≡ false) ⊎ SizesFit plan) (sym goes) old.stops;
       })
 
-  pub receives : (side : Side) (queue : ℕ) (lane : LanePart) → queue < (side_plan plan side).queues → has_forgotten now.site.pair.link side ≡ false → sender_of lane ≡ sender_of (lane_to now.site.pair side queue)
-      → ReceivingInPlace plan side queue false (receiver_of lane) → PairStands devs plan k (record now.site { pair = with_lane now.site.pair (other_side side) queue lane }) (with_queue kept side queue (received_part side queue lane))
+  pub receives : (side : Side) (queue : ℕ) (lane : LanePart) → queue < (side_plan plan side).queues → has_link_forgotten now.site.pair.link side ≡ false → fabric_sender_of lane ≡ fabric_sender_of (lane_to now.site.pair side queue)
+      → ReceivingInPlace plan side queue false (fabric_receiver_of lane) → PairStands devs plan k (record now.site { pair = with_lane now.site.pair (other_side side) queue lane }) (with_queue kept side queue (received_part side queue lane))
   receives side queue lane among fresh sends in_place =
       let old = stands_by side queue false among fresh in
       receiver_changes side queue (received_part side queue lane) among (peer_changes now.site.pair.lanes side queue lane) (stays now.site.pair.devs side (other_side side) queue) (stays now.site.pair.tallies (other_side side) side queue) sends (λ session. refl)
@@ -276,12 +276,12 @@ module _ {devs : List DevPlan} {plan : PairPlan} {k : ℕ} (now : Standing devs 
   sent_part side queue sending closed = part_with side queue (record { port = with_sending (port_queue side queue false).port sending; closed = closed })
 
   pub sent_stands : (side : Side) (queue : ℕ) (lane : LanePart) (sending : Sending) (closed seen_closed : Bool) (flow : Flow) (counters : Counters) (accepted : List SessionCount) (dev : DevPart) (seen_accepted : ℕ → ℕ)
-      → queue < (side_plan plan side).queues → has_forgotten now.site.pair.link side ≡ false → sending ≡ sending_for (sender_of lane) sending.entry → (is_left (sender_of lane) ≡ true → sending.entry ≡ last_entry (sender_of lane)) → SendingInPlace plan side queue (sender_of lane)
+      → queue < (side_plan plan side).queues → has_link_forgotten now.site.pair.link side ≡ false → sending ≡ sending_for (fabric_sender_of lane) sending.entry → (is_left (fabric_sender_of lane) ≡ true → sending.entry ≡ last_entry (fabric_sender_of lane)) → SendingInPlace plan side queue (fabric_sender_of lane)
       → closed ≡ seen_closed → flow.stopped ≡ dev.stopped → flow.stop ≡ (part side queue).flow.stop → flow.start ≡ (part side queue).flow.start → counters ≡ dev.counters → ((session : ℕ) → count_in accepted session ≡ seen_accepted session) → (dev.stopped ≡ false) ⊎ SizesFit plan
-      → QueueStands devs plan k side queue (has_forgotten now.site.pair.link side) (record (view_of now.site.pair side queue) { sends = sender_of lane; dev = dev; accepted = seen_accepted; closed = seen_closed })
+      → QueueStands devs plan k side queue (has_link_forgotten now.site.pair.link side) (record (view_of now.site.pair side queue) { sends = fabric_sender_of lane; dev = dev; accepted = seen_accepted; closed = seen_closed })
       (record (sent_part side queue sending closed) { flow = flow; counters = counters; accepted = accepted })
   sent_stands side queue lane sending closed seen_closed flow counters accepted dev seen_accepted among fresh is last in_place same_closed stopped stop start counted counts stops =
-      subst (λ f. QueueStands devs plan k side queue f (record (view_of now.site.pair side queue) { sends = sender_of lane; dev = dev; accepted = seen_accepted; closed = seen_closed })
+      subst (λ f. QueueStands devs plan k side queue f (record (view_of now.site.pair side queue) { sends = fabric_sender_of lane; dev = dev; accepted = seen_accepted; closed = seen_closed })
       (record (sent_part side queue sending closed) { flow = flow; counters = counters; accepted = accepted })) (sym fresh)
       (let old = stands_by side queue false among fresh in
       record {
@@ -304,14 +304,14 @@ module _ {devs : List DevPlan} {plan : PairPlan} {k : ℕ} (now : Standing devs 
   part_with_device side queue stopped counters = record (part side queue) { flow = record (part side queue).flow { stopped = stopped }; counters = counters }
 
   pub device_changes : (side : Side) (queue : ℕ) (stopped : Bool) (counters : Counters) (dev : DevPart) → queue < (side_plan plan side).queues → stopped ≡ dev.stopped → counters ≡ dev.counters
-      → (has_forgotten now.site.pair.link side ≡ true → dev.stopped ≡ false) → (dev.stopped ≡ false) ⊎ SizesFit plan
+      → (has_link_forgotten now.site.pair.link side ≡ true → dev.stopped ≡ false) → (dev.stopped ≡ false) ⊎ SizesFit plan
       → PairStands devs plan k (record now.site { pair = with_dev now.site.pair side queue dev }) (with_queue kept side queue (part_with_device side queue stopped counters))
   device_changes side queue stopped counters dev among goes counted forgets stops =
       let old = (now.sides side).queues queue among in
       sender_changes side queue [] (part_with_device side queue stopped counters) among (none_closes now.site.pair.sides side (other_side side) queue) (stays now.site.pair.lanes side (other_side side) queue) (changes now.site.pair.devs side queue dev)
       (stays now.site.pair.tallies side (other_side side) queue) (sym (append-nil (lane_of now.site.pair side queue).sent)) refl (λ session. refl)
       (record {
-        port = old.port ∙ other_dev plan side queue (has_forgotten now.site.pair.link side) (view_of now.site.pair side queue) dev (part side queue).queue.port.sending.entry;
+        port = old.port ∙ other_dev plan side queue (has_link_forgotten now.site.pair.link side) (view_of now.site.pair side queue) dev (part side queue).queue.port.sending.entry;
         entry = old.entry;
         closed = old.closed;
         stopped = goes;

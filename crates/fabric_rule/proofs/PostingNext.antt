@@ -22,13 +22,13 @@ use Rattle.ledger_model.specs.Outcome.{Outcome}
 use Rattle.ledger_model.specs.Sending.{next_begun as next_in_ledger, post_first, post_step, posts_through}
 use Rattle.bridge_pair.specs.Bridge.{Bridge}
 use Rattle.frame_ring.specs.Port.{Sending, with_sending}
-use Rattle.frame_ring.specs.Calls.{after_post, first_label, rest_of, let_go, post_answer, posted_by}
+use Rattle.frame_ring.specs.Calls.{port_after_post, first_label, rest_of, let_go, port_post_answer, posted_by}
 use Rattle.frame_ring.specs.PortView.{ring_posted}
 use Rattle.queue_pair.specs.Queue.{QueueState, with_port}
 use Rattle.fabric_rule.specs.Answers.{of_post}
-use Rattle.fabric_rule.specs.InPlace.{FitsSlot, IsWriteOf, SendingInPlace, last_entry, sender_of}
+use Rattle.fabric_rule.specs.InPlace.{FitsSlot, IsWriteOf, SendingInPlace, last_entry, fabric_sender_of}
 use Rattle.fabric_rule.specs.Parts.{QueuePart, with_bridge, with_queue}
-use Rattle.fabric_rule.specs.StandsFor.{PairStands, QueueStands, has_forgotten, is_left, sent_of, view_of}
+use Rattle.fabric_rule.specs.StandsFor.{PairStands, QueueStands, has_link_forgotten, is_left, sent_of, view_of}
 use Rattle.fabric_rule.proofs.NewEntries.{begun_in_place, last-begun, length-begun}
 use Rattle.step_kinds.specs.Bits.{has_bit}
 use Rattle.step_kinds.specs.Sides.{other_side}
@@ -74,10 +74,10 @@ module _ {devs : List DevPlan} {plan : PairPlan} {k : ℕ} (now : Standing devs 
   part_as side queue begun entry waiting todo = sent_part now side queue (let_go (sending_as side queue begun entry waiting todo)) (has_bit (side_of now.site.pair side).closed queue)
 
   -- the queue once its first label is gone
-  posted_queue : (side : Side) (queue begun : ℕ) (entry : Entry) (sent waiting : List Entry) (todo : List Label) → queue < (side_plan plan side).queues → has_forgotten now.site.pair.link side ≡ false
+  posted_queue : (side : Side) (queue begun : ℕ) (entry : Entry) (sent waiting : List Entry) (todo : List Label) → queue < (side_plan plan side).queues → has_link_forgotten now.site.pair.link side ≡ false
       → begun ≡ length sent → (is_left (record { sent = sent; waiting = waiting; todo = todo; told = (lane_of now.site.pair side queue).told }) ≡ true → entry ≡ last_entry (record { sent = sent; waiting = waiting; todo = todo; told = (lane_of now.site.pair side queue).told }))
       → SendingInPlace plan side queue (record { sent = sent; waiting = waiting; todo = todo; told = (lane_of now.site.pair side queue).told })
-      → QueueStands devs plan k side queue (has_forgotten now.site.pair.link side) (record (view_of now.site.pair side queue) { sends = sender_of (lane_as side queue sent waiting todo) }) (part_as side queue begun entry waiting todo)
+      → QueueStands devs plan k side queue (has_link_forgotten now.site.pair.link side) (record (view_of now.site.pair side queue) { sends = fabric_sender_of (lane_as side queue sent waiting todo) }) (part_as side queue begun entry waiting todo)
   posted_queue side queue begun entry sent waiting todo among fresh count is in_place =
       let old = stands_by now side queue false among fresh in
       sent_stands now side queue (lane_as side queue sent waiting todo) (let_go (sending_as side queue begun entry waiting todo)) (has_bit (side_of now.site.pair side).closed queue) (has_bit (side_of now.site.pair side).closed queue)
@@ -98,10 +98,10 @@ module _ {devs : List DevPlan} {plan : PairPlan} {k : ℕ} (now : Standing devs 
 
   abbrev post_with : Side → ℕ → QueueState → Move
   post_with side queue q =
-      record { answer = of_post (post_answer q.port); after = with_bridge (with_queue (kept now) side queue (part_with now side queue (with_port q (after_post q.port)))) (posted_by q.port (kept now).bridge) }
+      record { answer = of_post (port_post_answer q.port); after = with_bridge (with_queue (kept now) side queue (part_with now side queue (with_port q (port_after_post q.port)))) (posted_by q.port (kept now).bridge) }
 
   -- the pair then
-  sent_as : (side : Side) (queue begun : ℕ) (entry : Entry) (sent waiting : List Entry) (todo : List Label) (more : List Entry) → queue < (side_plan plan side).queues → has_forgotten now.site.pair.link side ≡ false → sent ≡ (lane_of now.site.pair side queue).sent ++ more
+  sent_as : (side : Side) (queue begun : ℕ) (entry : Entry) (sent waiting : List Entry) (todo : List Label) (more : List Entry) → queue < (side_plan plan side).queues → has_link_forgotten now.site.pair.link side ≡ false → sent ≡ (lane_of now.site.pair side queue).sent ++ more
       → begun ≡ length sent → (is_left (record { sent = sent; waiting = waiting; todo = todo; told = (lane_of now.site.pair side queue).told }) ≡ true → entry ≡ last_entry (record { sent = sent; waiting = waiting; todo = todo; told = (lane_of now.site.pair side queue).told }))
       → SendingInPlace plan side queue (record { sent = sent; waiting = waiting; todo = todo; told = (lane_of now.site.pair side queue).told })
       → PairStands devs plan k (record now.site { pair = with_lane now.site.pair side queue (lane_as side queue sent waiting todo) }) (with_queue (kept now) side queue (part_as side queue begun entry waiting todo))
@@ -109,7 +109,7 @@ module _ {devs : List DevPlan} {plan : PairPlan} {k : ℕ} (now : Standing devs 
       sender_changes now side queue more (part_as side queue begun entry waiting todo) among (none_closes now.site.pair.sides side (other_side side) queue) (changes now.site.pair.lanes side queue (lane_as side queue sent waiting todo))
       (stays now.site.pair.devs side (other_side side) queue) (stays now.site.pair.tallies side (other_side side) queue) grown refl (λ session. refl) (posted_queue side queue begun entry sent waiting todo among fresh count is in_place)
 
-  post_one : (side : Side) (queue begun : ℕ) (entry : Entry) (sent waiting : List Entry) (label : Label) (rest : List Label) (more : List Entry) → queue < (side_plan plan side).queues → has_forgotten now.site.pair.link side ≡ false → sent ≡ (lane_of now.site.pair side queue).sent ++ more
+  post_one : (side : Side) (queue begun : ℕ) (entry : Entry) (sent waiting : List Entry) (label : Label) (rest : List Label) (more : List Entry) → queue < (side_plan plan side).queues → has_link_forgotten now.site.pair.link side ≡ false → sent ≡ (lane_of now.site.pair side queue).sent ++ more
       → begun ≡ length sent → entry ≡ last_entry (record { sent = sent; waiting = waiting; todo = label ∷ rest; told = (lane_of now.site.pair side queue).told }) → SizesFit plan
       → SendingInPlace plan side queue (record { sent = sent; waiting = waiting; todo = label ∷ rest; told = (lane_of now.site.pair side queue).told })
       → PairStands devs plan k (record now.site { pair = posts_through (reads now) (with_lane now.site.pair side queue (lane_as side queue sent waiting rest)) side label })
@@ -138,8 +138,8 @@ module _ {devs : List DevPlan} {plan : PairPlan} {k : ℕ} (now : Standing devs 
   abbrev PostFollows : Side → ℕ → Entry → List Entry → List Label → Type 0
   PostFollows side queue entry waiting todo = Follows devs plan k now.site (Post k side queue) (post_made side queue (lane_as side queue (lane_of now.site.pair side queue).sent waiting todo)) (post_with side queue (queue_as side queue entry waiting todo))
 
-  module _ (side : Side) (queue : ℕ) (entry : Entry) (among : queue < (side_plan plan side).queues) (fresh : has_forgotten now.site.pair.link side ≡ false)
-      (in_place : SendingInPlace plan side queue (sender_of (lane_of now.site.pair side queue))) (is : is_left (sender_of (lane_of now.site.pair side queue)) ≡ true → entry ≡ last_entry (sender_of (lane_of now.site.pair side queue))) where
+  module _ (side : Side) (queue : ℕ) (entry : Entry) (among : queue < (side_plan plan side).queues) (fresh : has_link_forgotten now.site.pair.link side ≡ false)
+      (in_place : SendingInPlace plan side queue (fabric_sender_of (lane_of now.site.pair side queue))) (is : is_left (fabric_sender_of (lane_of now.site.pair side queue)) ≡ true → entry ≡ last_entry (fabric_sender_of (lane_of now.site.pair side queue))) where
     -- with nothing left the entry is let go
     posts_none : (lane_of now.site.pair side queue).todo ≡ [] → (lane_of now.site.pair side queue).waiting ≡ [] → PostFollows side queue entry [] []
     posts_none none all = (
@@ -151,10 +151,10 @@ module _ {devs : List DevPlan} {plan : PairPlan} {k : ℕ} (now : Standing devs 
         none_part : QueuePart
         none_part = part_as side queue (length (lane_of now.site.pair side queue).sent) entry [] []
 
-        none_stands : QueueStands devs plan k side queue (has_forgotten now.site.pair.link side) (view_of now.site.pair side queue) (part_as side queue (length (lane_of now.site.pair side queue).sent) entry [] [])
+        none_stands : QueueStands devs plan k side queue (has_link_forgotten now.site.pair.link side) (view_of now.site.pair side queue) (part_as side queue (length (lane_of now.site.pair side queue).sent) entry [] [])
         none_stands =
-            subst (λ todo. QueueStands devs plan k side queue (has_forgotten now.site.pair.link side) (record (view_of now.site.pair side queue) { sends = record { sent = (lane_of now.site.pair side queue).sent; waiting = (lane_of now.site.pair side queue).waiting; todo = todo; told = (lane_of now.site.pair side queue).told } }) (part_as side queue (length (lane_of now.site.pair side queue).sent) entry [] [])) (sym none)
-            (subst (λ waiting. QueueStands devs plan k side queue (has_forgotten now.site.pair.link side) (record (view_of now.site.pair side queue) { sends = record { sent = (lane_of now.site.pair side queue).sent; waiting = waiting; todo = []; told = (lane_of now.site.pair side queue).told } }) (part_as side queue (length (lane_of now.site.pair side queue).sent) entry [] [])) (sym all)
+            subst (λ todo. QueueStands devs plan k side queue (has_link_forgotten now.site.pair.link side) (record (view_of now.site.pair side queue) { sends = record { sent = (lane_of now.site.pair side queue).sent; waiting = (lane_of now.site.pair side queue).waiting; todo = todo; told = (lane_of now.site.pair side queue).told } }) (part_as side queue (length (lane_of now.site.pair side queue).sent) entry [] [])) (sym none)
+            (subst (λ waiting. QueueStands devs plan k side queue (has_link_forgotten now.site.pair.link side) (record (view_of now.site.pair side queue) { sends = record { sent = (lane_of now.site.pair side queue).sent; waiting = waiting; todo = []; told = (lane_of now.site.pair side queue).told } }) (part_as side queue (length (lane_of now.site.pair side queue).sent) entry [] [])) (sym all)
             (posted_queue side queue (length (lane_of now.site.pair side queue).sent) entry (lane_of now.site.pair side queue).sent [] [] among fresh refl (λ left. absurd (false≢true left)) (record { todo = tt; last = in_place.last; waiting = tt; todo_fits = inl refl; waiting_fits = inl refl })))
 
     posts_some : (label : Label) (rest : List Label) (waiting : List Entry) → (lane_of now.site.pair side queue).todo ≡ label ∷ rest → (lane_of now.site.pair side queue).waiting ≡ waiting → PostFollows side queue entry waiting (label ∷ rest)
@@ -180,9 +180,9 @@ module _ {devs : List DevPlan} {plan : PairPlan} {k : ℕ} (now : Standing devs 
         (sym labels.2) (
           refl,
           post_one side queue (length (lane_of now.site.pair side queue).sent + 1) next ((lane_of now.site.pair side queue).sent ++ next ∷ []) others labels.0 labels.1 (next ∷ []) among fresh refl (sym (length-begun (lane_of now.site.pair side queue).sent next))
-              (sym (last-begun queue (sender_of (lane_of now.site.pair side queue)) next others (lane_of now.site.pair side queue).told)) fits
+              (sym (last-begun queue (fabric_sender_of (lane_of now.site.pair side queue)) next others (lane_of now.site.pair side queue).told)) fits
               (subst (λ todo. SendingInPlace plan side queue (record { sent = (lane_of now.site.pair side queue).sent ++ next ∷ []; waiting = others; todo = todo; told = (lane_of now.site.pair side queue).told })) labels.2
-              (begun_in_place plan side queue (sender_of (lane_of now.site.pair side queue)) next others (lane_of now.site.pair side queue).told fits waits.0 waits.1)),
+              (begun_in_place plan side queue (fabric_sender_of (lane_of now.site.pair side queue)) next others (lane_of now.site.pair side queue).told fits waits.0 waits.1)),
         )
       where
         labels : (label : Label) × (rest : List Label) × (labels_of queue (length (lane_of now.site.pair side queue).sent) next ≡ label ∷ rest)
@@ -202,7 +202,7 @@ module _ {devs : List DevPlan} {plan : PairPlan} {k : ℕ} (now : Standing devs 
     posts_left [] [] is_todo is_waiting = posts_none is_todo is_waiting
     posts_left (next ∷ others) [] is_todo is_waiting = posts_next next others is_todo is_waiting
 
-  post_by : (side : Side) (queue : ℕ) (forgotten : Bool) → queue < (side_plan plan side).queues → has_forgotten now.site.pair.link side ≡ forgotten → Follows devs plan k now.site (Post k side queue) (post_step (reads now) now.site.pair side queue) (post_with side queue (port_queue now side queue forgotten))
+  post_by : (side : Side) (queue : ℕ) (forgotten : Bool) → queue < (side_plan plan side).queues → has_link_forgotten now.site.pair.link side ≡ forgotten → Follows devs plan k now.site (Post k side queue) (post_step (reads now) now.site.pair side queue) (post_with side queue (port_queue now side queue forgotten))
   post_by side queue true among forgot =
       subst (λ (lane : LanePart). Follows devs plan k now.site (Post k side queue) (post_made side queue lane) (post_with side queue (port_queue now side queue true)))
       (sym (two_same (λ todo waiting. lane_as side queue (lane_of now.site.pair side queue).sent waiting todo) ((stands_by now side queue true among forgot).forgets refl).todo ((stands_by now side queue true among forgot).forgets refl).waiting))

@@ -29,8 +29,8 @@ use Rattle.bridge_pair.specs.Flights.{flying_of}
 use Rattle.bridge_pair.specs.Writes.{PostedWrite, bell_write, memory_write}
 use Rattle.frame_ring.specs.PortView.{ring_posted, index_posted}
 use Rattle.posted_queue.specs.Flight.{given_back, posted}
-use Rattle.fabric_rule.specs.InPlace.{HaveBytes, IsBegun, IsWriteOf, LiesIn}
-use Rattle.fabric_rule.specs.StandsFor.{PairStands, write_of, flying_labelled, raw_bytes, sent_of}
+use Rattle.fabric_rule.specs.InPlace.{HaveRawBytes, IsLabelBegun, IsWriteOf, ArrivalLiesIn}
+use Rattle.fabric_rule.specs.StandsFor.{PairStands, fabric_write_of, flying_labelled, raw_bytes, sent_of}
 use Rattle.fabric_rule.proofs.Follows.{two_same}
 use Rattle.fabric_rule.proofs.OneQueue.{stands_now, Standing, kept}
 use Rattle.fabric_rule.proofs.PostSteps.{posts_one}
@@ -114,8 +114,8 @@ module _ {devs : List DevPlan} {plan : PairPlan} {k : ℕ} (now : Standing devs 
   lost A = record { bridge = refl; link = now.link; sides = now.sides }
   lost B = record { bridge = refl; link = now.link; sides = now.sides }
 
-  posts_out : (side : Side) (label : Label) (write : PostedWrite) (reached up : Bool) → flying_labelled plan side (sent_by side) (raw_bytes label []) label ≡ flying_of plan side write → IsBegun (sent_by side) label → HaveBytes (label ∷ []) []
-      → (reached ≡ true → LiesIn (memory_size plan (other_side side)) (flying_of plan side write).arrival) → is_up now.site.pair.link.state ≡ up → Posts side label write reached up
+  posts_out : (side : Side) (label : Label) (write : PostedWrite) (reached up : Bool) → flying_labelled plan side (sent_by side) (raw_bytes label []) label ≡ flying_of plan side write → IsLabelBegun (sent_by side) label → HaveRawBytes (label ∷ []) []
+      → (reached ≡ true → ArrivalLiesIn (memory_size plan (other_side side)) (flying_of plan side write).arrival) → is_up now.site.pair.link.state ≡ up → Posts side label write reached up
   posts_out side label write false up same begun ring place is = lost side
   posts_out side label write true false same begun ring place is = lost side
   posts_out side label write true true same begun ring place is = posts_one (stands_now now) is side label (flying_of plan side write) _ same begun (place refl) ring
@@ -137,12 +137,12 @@ module _ {devs : List DevPlan} {plan : PairPlan} {k : ℕ} (now : Standing devs 
     among_at q on = subst (λ q. q < (side_plan plan side).queues) (sym on) among
 
     -- its write is the entry's
-    field_posts : (label : Label) (q m : ℕ) → q ≡ queue → m ≡ n → flying_labelled plan side (sent_by side) (raw_bytes label []) label ≡ flying_of plan side (write_of plan side (slice_index_or (sent_by side q) m GoesDown) [] label)
-        → (m < length (sent_by side q) → IsBegun (sent_by side) label) → HaveBytes (label ∷ []) [] → (has_window plan side label ≡ true → LiesIn (memory_size plan (other_side side)) (flying_of plan side (write_of plan side entry [] label)).arrival)
-        → Posts side label (write_of plan side entry [] label) (has_window plan side label) (is_up now.site.pair.link.state)
+    field_posts : (label : Label) (q m : ℕ) → q ≡ queue → m ≡ n → flying_labelled plan side (sent_by side) (raw_bytes label []) label ≡ flying_of plan side (fabric_write_of plan side (slice_index_or (sent_by side q) m GoesDown) [] label)
+        → (m < length (sent_by side q) → IsLabelBegun (sent_by side) label) → HaveRawBytes (label ∷ []) [] → (has_window plan side label ≡ true → ArrivalLiesIn (memory_size plan (other_side side)) (flying_of plan side (fabric_write_of plan side entry [] label)).arrival)
+        → Posts side label (fabric_write_of plan side entry [] label) (has_window plan side label) (is_up now.site.pair.link.state)
     field_posts label q m on at same begun_is ring place =
-        posts_out side label (write_of plan side entry [] label) (has_window plan side label) (is_up now.site.pair.link.state)
-        (same ∙ ap (λ entry. flying_of plan side (write_of plan side entry [] label)) (two_same (λ q m. slice_index_or (sent_by side q) m GoesDown) on at ∙ sym is))
+        posts_out side label (fabric_write_of plan side entry [] label) (has_window plan side label) (is_up now.site.pair.link.state)
+        (same ∙ ap (λ entry. flying_of plan side (fabric_write_of plan side entry [] label)) (two_same (λ q m. slice_index_or (sent_by side q) m GoesDown) on at ∙ sym is))
         (begun_is (subst (λ q. m < length (sent_by side q)) (sym on) (subst (λ m. m < length (sent_by side queue)) (sym at) begun))) ring place refl
 
     pub label_posts : (label : Label) → IsWriteOf queue n entry label

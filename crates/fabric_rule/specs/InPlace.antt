@@ -33,8 +33,8 @@ pub record SendingEnd : Type 0 where
   pub todo : List Label
   pub told : ℕ
 
-abbrev pub sender_of : LanePart → SendingEnd
-sender_of lane = record { sent = lane.sent; waiting = lane.waiting; todo = lane.todo; told = lane.told }
+abbrev pub fabric_sender_of : LanePart → SendingEnd
+fabric_sender_of lane = record { sent = lane.sent; waiting = lane.waiting; todo = lane.todo; told = lane.told }
 
 -- the entry that was begun last
 abbrev pub last_entry : SendingEnd → Entry
@@ -46,8 +46,8 @@ pub record ReceivingEnd : Type 0 where
   pub cleared : ℕ
   pub acked : ℕ
 
-abbrev pub receiver_of : LanePart → ReceivingEnd
-receiver_of lane =
+abbrev pub fabric_receiver_of : LanePart → ReceivingEnd
+fabric_receiver_of lane =
     record {
       port = record {
         got = lane.got;
@@ -122,30 +122,30 @@ pub record IsForgotten (sends : SendingEnd) (receives : ReceivingEnd) (stopped :
 -- What is in flight
 
 -- the labels are of entries that were begun
-abbrev pub IsBegun : (ℕ → List Entry) → Label → Type 0
-IsBegun sent (Chunk q n part) = n < length (sent q)
-IsBegun sent (Len q n) = n < length (sent q)
-IsBegun sent (Ver q n) = n < length (sent q)
-IsBegun sent (Flag q n) = n < length (sent q)
-IsBegun sent (Down q n) = n < length (sent q)
-IsBegun sent label = Unit {0}
+abbrev pub IsLabelBegun : (ℕ → List Entry) → Label → Type 0
+IsLabelBegun sent (Chunk q n part) = n < length (sent q)
+IsLabelBegun sent (Len q n) = n < length (sent q)
+IsLabelBegun sent (Ver q n) = n < length (sent q)
+IsLabelBegun sent (Flag q n) = n < length (sent q)
+IsLabelBegun sent (Down q n) = n < length (sent q)
+IsLabelBegun sent label = Unit {0}
 
 -- each raw write has its bytes, and no other
-abbrev pub HaveBytes : List Label → List (List ℕ) → Type 0
-HaveBytes [] [] = Unit {0}
-HaveBytes [] (bytes ∷ poked) = ⊥
-HaveBytes (Raw window offset len ∷ labels) [] = ⊥
-HaveBytes (Raw window offset len ∷ labels) (bytes ∷ poked) = HaveBytes labels poked
-HaveBytes (label ∷ labels) poked = HaveBytes labels poked
+abbrev pub HaveRawBytes : List Label → List (List ℕ) → Type 0
+HaveRawBytes [] [] = Unit {0}
+HaveRawBytes [] (bytes ∷ poked) = ⊥
+HaveRawBytes (Raw window offset len ∷ labels) [] = ⊥
+HaveRawBytes (Raw window offset len ∷ labels) (bytes ∷ poked) = HaveRawBytes labels poked
+HaveRawBytes (label ∷ labels) poked = HaveRawBytes labels poked
 
 -- bytes lie in a memory of this size
-abbrev pub LiesIn : ℕ → Arrival → Type 0
-LiesIn size (AtAddress at bytes) = at + length bytes ≤ size
-LiesIn size arrival = Unit {0}
+abbrev pub ArrivalLiesIn : ℕ → Arrival → Type 0
+ArrivalLiesIn size (AtAddress at bytes) = at + length bytes ≤ size
+ArrivalLiesIn size arrival = Unit {0}
 
 pub record FlightInPlace (plan : PairPlan) (side : Side) (down : Bool) (sent : ℕ → List Entry) (flight : List Label) (poked : List (List ℕ)) (writes : List Flying) : Type 0 where
-  pub begun : AllByRecursion (IsBegun sent) flight
-  pub raws : HaveBytes flight poked
-  pub places : AllByRecursion (λ flying. LiesIn (memory_size plan (other_side side)) flying.arrival) writes
+  pub begun : AllByRecursion (IsLabelBegun sent) flight
+  pub raws : HaveRawBytes flight poked
+  pub places : AllByRecursion (λ flying. ArrivalLiesIn (memory_size plan (other_side side)) flying.arrival) writes
   -- nothing is in flight on a link that is down
   pub none : down ≡ true → (flight ≡ []) × (poked ≡ [])

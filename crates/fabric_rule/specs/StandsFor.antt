@@ -29,31 +29,31 @@ use Rattle.bridge_pair.specs.Flights.{Flying, flying_of}
 use Rattle.bridge_pair.specs.Writes.{PostedWrite, bell_write, memory_write, pad_write}
 use Rattle.bridge_pair.specs.declared.book.SideBook.{SideBook}
 use Rattle.frame_ring.specs.Port.{PortState, Sending, fresh_port}
-use Rattle.fabric_rule.specs.InPlace.{FlightInPlace, IsForgotten, LinkInPlace, ReceivingEnd, ReceivingInPlace, SendingEnd, SendingInPlace, last_entry, receiver_of, sender_of}
+use Rattle.fabric_rule.specs.InPlace.{FlightInPlace, IsForgotten, LinkInPlace, ReceivingEnd, ReceivingInPlace, SendingEnd, SendingInPlace, last_entry, fabric_receiver_of, fabric_sender_of}
 use Rattle.fabric_rule.specs.Parts.{PairState, QueuePart, count_in, no_queue, plain_bridge, queues_of}
 
 -- Writes in flight
 
 -- the entry whose write a label is, of those that a side sent on each queue
-abbrev pub entry_among : (ℕ → List Entry) → Label → Entry
-entry_among sent (Chunk queue n part) = slice_index_or (sent queue) n GoesDown
-entry_among sent (Len queue n) = slice_index_or (sent queue) n GoesDown
-entry_among sent (Ver queue n) = slice_index_or (sent queue) n GoesDown
-entry_among sent (Flag queue n) = slice_index_or (sent queue) n GoesDown
-entry_among sent (Down queue n) = slice_index_or (sent queue) n GoesDown
-entry_among sent label = GoesDown
+abbrev pub fabric_entry_among : (ℕ → List Entry) → Label → Entry
+fabric_entry_among sent (Chunk queue n part) = slice_index_or (sent queue) n GoesDown
+fabric_entry_among sent (Len queue n) = slice_index_or (sent queue) n GoesDown
+fabric_entry_among sent (Ver queue n) = slice_index_or (sent queue) n GoesDown
+fabric_entry_among sent (Flag queue n) = slice_index_or (sent queue) n GoesDown
+fabric_entry_among sent (Down queue n) = slice_index_or (sent queue) n GoesDown
+fabric_entry_among sent label = GoesDown
 
 abbrev pub write_through : Label → Option WindowWrite → PostedWrite
 write_through label None = memory_write label 0 0 []
 write_through label (Some write) = memory_write label write.window write.offset write.bytes
 
 -- the write of a label that is of this entry, `raw` being the bytes of a raw one
-abbrev pub write_of : PairPlan → Side → Entry → List ℕ → Label → PostedWrite
-write_of plan side entry raw (Bell queue) = bell_write queue
-write_of plan side entry raw (Pad i value) = pad_write i value
-write_of plan side entry raw (Raw window offset len) = memory_write (Raw window offset len) window offset raw
-write_of plan side entry raw (Index queue n) = write_through (Index queue n) (Some (index_write plan side queue n))
-write_of plan side entry raw label = write_through label (entry_write plan side entry label)
+abbrev pub fabric_write_of : PairPlan → Side → Entry → List ℕ → Label → PostedWrite
+fabric_write_of plan side entry raw (Bell queue) = bell_write queue
+fabric_write_of plan side entry raw (Pad i value) = pad_write i value
+fabric_write_of plan side entry raw (Raw window offset len) = memory_write (Raw window offset len) window offset raw
+fabric_write_of plan side entry raw (Index queue n) = write_through (Index queue n) (Some (index_write plan side queue n))
+fabric_write_of plan side entry raw label = write_through label (entry_write plan side entry label)
 
 -- a raw label takes the first of the bytes of raw writes, and leaves the others
 abbrev pub raw_bytes : Label → List (List ℕ) → List ℕ
@@ -66,7 +66,7 @@ raws_behind label poked = poked
 
 -- the write in flight of a label
 abbrev pub flying_labelled : PairPlan → Side → (ℕ → List Entry) → List ℕ → Label → Flying
-flying_labelled plan side sent raw label = flying_of plan side (write_of plan side (entry_among sent label) raw label)
+flying_labelled plan side sent raw label = flying_of plan side (fabric_write_of plan side (fabric_entry_among sent label) raw label)
 
 -- the writes of the labels in flight, the raw ones with their bytes in order
 abbrev pub writes_labelled : PairPlan → Side → (ℕ → List Entry) → List Label → List (List ℕ) → List Flying
@@ -127,8 +127,8 @@ pub record QueueView : Type 0 where
 abbrev pub view_of : PairPart → Side → ℕ → QueueView
 view_of pair side queue =
     record {
-      sends = sender_of (lane_of pair side queue);
-      receives = receiver_of (lane_to pair side queue);
+      sends = fabric_sender_of (lane_of pair side queue);
+      receives = fabric_receiver_of (lane_to pair side queue);
       dev = dev_of pair side queue;
       accepted = λ session. (tally_of pair side queue session).accepted;
       delivered = λ session. (tally_of pair (other_side side) queue session).delivered;
@@ -172,8 +172,8 @@ pub record QueueStands (devs : List DevPlan) (plan : PairPlan) (k : ℕ) (side :
 -- A side
 
 -- a side that has forgotten its session: from its clean to the next train
-abbrev pub has_forgotten : Link → Side → Bool
-has_forgotten link side = is_down link.state && at_side link.clean side
+abbrev pub has_link_forgotten : Link → Side → Bool
+has_link_forgotten link side = is_down link.state && at_side link.clean side
 
 -- the entries that are sent on each queue
 abbrev pub sent_in : (ℕ → QueueView) → ℕ → List Entry
@@ -187,7 +187,7 @@ pub record SideStands (devs : List DevPlan) (plan : PairPlan) (k : ℕ) (side : 
 
 abbrev pub SideStandsIn : List DevPlan → PairPlan → ℕ → PairPart → Side → List QueuePart → Type 0
 SideStandsIn devs plan k pair side parts =
-    SideStands devs plan k side (is_down pair.link.state) (has_forgotten pair.link side) (side_of pair side).joined (side_of pair side).flight (side_of pair side).poked (view_of pair side) parts
+    SideStands devs plan k side (is_down pair.link.state) (has_link_forgotten pair.link side) (side_of pair side).joined (side_of pair side).flight (side_of pair side).poked (view_of pair side) parts
 
 -- A pair, whose number is k
 

@@ -19,18 +19,18 @@ use Rattle.pair_model.specs.Link.{is_up, enable_refusal, train_refusal, cut_refu
 use Rattle.pair_model.specs.Plans.{dev_plan}
 use Rattle.bridge_regs.specs.Doorbell.{with_masked}
 use Rattle.host_memory.specs.Memory.{bytes_at}
-use Rattle.bridge_pair.specs.Bridge.{Bridge, bells_of, bytes_of, flight_of, pads_of, with_bells}
+use Rattle.bridge_pair.specs.Bridge.{Bridge, bells_of, bridge_bytes_of, flight_of, pads_of, with_bells}
 use Rattle.bridge_pair.specs.Calls.{after_land, landing}
 use Rattle.bridge_pair.specs.Ends.{label_landed}
 use Rattle.bridge_pair.specs.Flights.{Flying}
-use Rattle.bridge_pair.specs.Links.{after_enable, after_train, after_cut, after_drop}
+use Rattle.bridge_pair.specs.Links.{after_enable, after_train, bridge_after_cut, bridge_after_drop}
 use Rattle.bridge_pair.specs.Writes.{PostedWrite, memory_write, pad_write}
 use Rattle.hand_shake.specs.Offers.{offer_answer, after_offer, with_posted}
 use Rattle.hand_shake.specs.Checks.{check_answer, after_check}
 use Rattle.hand_shake.specs.Queues.{ready_answer, after_ready, join_answer, after_join}
-use Rattle.frame_ring.specs.Calls.{post_answer, after_post, posted_by, copy_answer, after_copy, clear_answer, after_clear, cleared_by, ack_answer, after_ack, acked_by, free_answer}
+use Rattle.frame_ring.specs.Calls.{port_post_answer, port_after_post, posted_by, port_copy_answer, port_after_copy, port_clear_answer, port_after_clear, cleared_by, port_ack_answer, port_after_ack, port_acked_by, free_answer}
 use Rattle.frame_ring.specs.Port.{PortState}
-use Rattle.queue_pair.specs.Gates.{begin_answer, after_begin, qpdown_answer, after_qpdown, look_answer, after_look, irq_bits, after_irq}
+use Rattle.queue_pair.specs.Gates.{begin_answer, queue_after_begin, qpdown_answer, after_qpdown, look_answer, queue_after_look, irq_bits, after_irq}
 use Rattle.queue_pair.specs.Queue.{with_port}
 use Rattle.fabric_rule.specs.Answers.{of_link, of_offer, of_check, of_ready, of_join, of_begin, of_xbegin, of_post, of_land, of_look, of_copy, of_clear, of_ack}
 use Rattle.fabric_rule.specs.Parts.{QueuePart, one_more}
@@ -52,8 +52,8 @@ posted_aside bridge side write = if is_up bridge.link.state then with_posted bri
 abbrev pub bridge_turn : Bridge → BridgeStep → BridgeTurn
 bridge_turn bridge (Enable side) = record { answer = of_link (enable_refusal bridge.link side) Done; bridge = after_enable bridge side }
 bridge_turn bridge Train = record { answer = of_link (train_refusal bridge.link) (OkSession (bridge.link.session + 1)); bridge = after_train bridge }
-bridge_turn bridge Break = record { answer = of_link (cut_refusal bridge.link) Done; bridge = after_cut bridge }
-bridge_turn bridge DropDone = record { answer = of_link (drop_refusal bridge.link) Done; bridge = after_drop bridge }
+bridge_turn bridge Break = record { answer = of_link (cut_refusal bridge.link) Done; bridge = bridge_after_cut bridge }
+bridge_turn bridge DropDone = record { answer = of_link (drop_refusal bridge.link) Done; bridge = bridge_after_drop bridge }
 bridge_turn bridge (Offer side) = record { answer = of_offer (offer_answer bridge side); bridge = after_offer bridge side }
 bridge_turn bridge (Check side) = record { answer = of_check (check_answer bridge side); bridge = after_check bridge side }
 bridge_turn bridge (Ready side queue) = record { answer = of_ready (ready_answer bridge side queue); bridge = after_ready bridge side queue }
@@ -67,7 +67,7 @@ bridge_turn bridge (Unmask side bits) =
 bridge_turn bridge (Spad side i value) = record { answer = Done; bridge = posted_aside bridge side (pad_write i value) }
 bridge_turn bridge (Poke side window offset bytes) =
     record { answer = Done; bridge = posted_aside bridge side (memory_write (Raw window offset (length bytes.now)) window offset bytes.now) }
-bridge_turn bridge (ShowMem side at len) = bridge_shown bridge (Mem (bytes_at at len (bytes_of bridge side)))
+bridge_turn bridge (ShowMem side at len) = bridge_shown bridge (Mem (bytes_at at len (bridge_bytes_of bridge side)))
 bridge_turn bridge (ShowPad side i) = bridge_shown bridge (PadValue (slice_index (pads_of bridge side) i))
 bridge_turn bridge (ShowQueue side place) =
     let writes = (flight_of bridge side).writes in
@@ -90,7 +90,7 @@ begin_turn part bridge frame =
     let answer = of_begin (begin_answer part.queue bridge (length frame)) in
     record {
       answer = answer;
-      part = accepted_where_begun answer bridge.link.session (record part { queue = after_begin part.queue bridge frame });
+      part = accepted_where_begun answer bridge.link.session (record part { queue = queue_after_begin part.queue bridge frame });
       bridge = bridge;
     }
 
@@ -102,7 +102,7 @@ qpdown_turn part bridge =
 -- refused, which is counted, and nothing else changes
 abbrev pub xbegun : Answer → Bridge → QueuePart → List ℕ → QueuePart
 xbegun (OkNumber number) bridge part frame =
-    let begun = after_begin part.queue bridge frame in
+    let begun = queue_after_begin part.queue bridge frame in
     record {
       queue = begun;
       flow = record part.flow { stopped = stopped_after_send part.flow (free_answer begun.port bridge) };
@@ -113,12 +113,12 @@ xbegun (OkNumber number) bridge part frame =
 xbegun answer bridge part frame = record part { counters = count_refused part.counters }
 
 -- a device's frame, whose answer follows from its length
-abbrev pub frame_answer : QueuePart → Bridge → ℕ → Answer
-frame_answer part bridge len = of_xbegin part.flow.stopped (begin_answer part.queue bridge len)
+abbrev pub device_frame_answer : QueuePart → Bridge → ℕ → Answer
+device_frame_answer part bridge len = of_xbegin part.flow.stopped (begin_answer part.queue bridge len)
 
 abbrev pub frame_turn : QueuePart → Bridge → List ℕ → QueueTurn
 frame_turn part bridge frame =
-    let answer = frame_answer part bridge (length frame) in
+    let answer = device_frame_answer part bridge (length frame) in
     record { answer = answer; part = xbegun answer bridge part frame; bridge = bridge }
 
 -- the result of a call of the queue's port
@@ -126,11 +126,11 @@ abbrev pub port_turn : QueuePart → Answer → PortState → Bridge → QueueTu
 port_turn part answer port bridge = record { answer = answer; part = record part { queue = with_port part.queue port }; bridge = bridge }
 
 abbrev pub post_turn : QueuePart → Bridge → QueueTurn
-post_turn part bridge = port_turn part (of_post (post_answer part.queue.port)) (after_post part.queue.port) (posted_by part.queue.port bridge)
+post_turn part bridge = port_turn part (of_post (port_post_answer part.queue.port)) (port_after_post part.queue.port) (posted_by part.queue.port bridge)
 
 abbrev pub look_turn : QueuePart → Bridge → QueueTurn
 look_turn part bridge =
-    record { answer = of_look (look_answer part.queue bridge); part = record part { queue = after_look part.queue bridge }; bridge = bridge }
+    record { answer = of_look (look_answer part.queue bridge); part = record part { queue = queue_after_look part.queue bridge }; bridge = bridge }
 
 -- a frame that was delivered is counted in the pair's session, and by the device on the queue
 abbrev pub delivered_where_whole : LaneCopy → ℕ → QueuePart → QueuePart
@@ -140,18 +140,18 @@ delivered_where_whole copy session part = part
 
 abbrev pub copy_turn : QueuePart → Bridge → QueueTurn
 copy_turn part bridge =
-    let copy = copy_answer part.queue.port bridge in
+    let copy = port_copy_answer part.queue.port bridge in
     record {
       answer = of_copy copy;
-      part = delivered_where_whole copy bridge.link.session (record part { queue = with_port part.queue (after_copy part.queue.port bridge) });
+      part = delivered_where_whole copy bridge.link.session (record part { queue = with_port part.queue (port_after_copy part.queue.port bridge) });
       bridge = bridge;
     }
 
 abbrev pub clear_turn : QueuePart → Bridge → QueueTurn
-clear_turn part bridge = port_turn part (of_clear (clear_answer part.queue.port)) (after_clear part.queue.port) (cleared_by part.queue.port bridge)
+clear_turn part bridge = port_turn part (of_clear (port_clear_answer part.queue.port)) (port_after_clear part.queue.port) (cleared_by part.queue.port bridge)
 
 abbrev pub ack_turn : QueuePart → Bridge → QueueTurn
-ack_turn part bridge = port_turn part (of_ack (ack_answer part.queue.port)) (after_ack part.queue.port) (acked_by part.queue.port bridge)
+ack_turn part bridge = port_turn part (of_ack (port_ack_answer part.queue.port)) (port_after_ack part.queue.port) (port_acked_by part.queue.port bridge)
 
 abbrev pub wake_turn : QueuePart → Bridge → QueueTurn
 wake_turn part bridge =

@@ -10,7 +10,7 @@ use Rattle.pair_model.specs.Labels.{label_of, labels_of}
 use Rattle.pair_model.specs.Pieces.{piece_of, pieces_of}
 use Rattle.pair_model.specs.Sizes.{pieces_in}
 use Rattle.step_kinds.specs.declared.steps.Label.{Label}
-use Rattle.frame_ring.specs.Outgoing.{all_writes_in, carries_bytes, entries_under, entry_at, writes_in}
+use Rattle.frame_ring.specs.Outgoing.{all_writes_in, carries_bytes, entries_under, entry_at, port_writes_in}
 use Rattle.frame_ring.specs.Port.{left_of_entry, writes_from}
 
 -- Pieces
@@ -47,16 +47,16 @@ carries_is largest (Some bytes) piece among = sym (ap carries_bytes (piece_at la
 
 -- An entry under way takes at most 516 writes, where a payload has at most 65,536 bytes.
 pub few_writes : (largest : ℕ) (frame : Option (List ℕ)) (piece : ℕ) → largest ≤ 65536 → piece < length (entries_under largest frame)
-    → writes_in (entry_at (entries_under largest frame) piece) ≤ 516
+    → port_writes_in (entry_at (entries_under largest frame) piece) ≤ 516
 few_writes largest None zero few among = omega arith
 few_writes largest None (suc piece) few among = absurd (omega arith)
 few_writes largest (Some bytes) piece few among =
-    let is = ap writes_in (piece_at largest bytes piece (omega (arith, among, length-pieces_of largest bytes))) in
+    let is = ap port_writes_in (piece_at largest bytes piece (omega (arith, among, length-pieces_of largest bytes))) in
     let short : length (take largest (drop (largest * piece) bytes)) ≤ 65536 = omega (arith, length-take largest (drop (largest * piece) bytes)) in
     omega (arith, is, short)
 
 -- The list of an entry's labels has one for each write that the entry takes: its chunks, and four more.
-pub length-labels_of : (queue n : ℕ) (entry : Entry) → length (labels_of queue n entry) ≡ writes_in entry
+pub length-labels_of : (queue n : ℕ) (entry : Entry) → length (labels_of queue n entry) ≡ port_writes_in entry
 length-labels_of queue n entry =
     let chunks = chunks_in (length (bytes_of entry)) in
     length-map (writes_of n entry) (label_of queue entry)
@@ -68,10 +68,10 @@ length-writes_from queue n [] = refl
 length-writes_from queue n (entry ∷ entries) =
     length-append (left_of_entry entry (labels_of queue n entry)) (writes_from queue (suc n) entries)
     ∙ ap (λ first. first + length (writes_from queue (suc n) entries)) (length-map (labels_of queue n entry) _ ∙ length-labels_of queue n entry)
-    ∙ ap (λ others. writes_in entry + others) (length-writes_from queue (suc n) entries)
+    ∙ ap (λ others. port_writes_in entry + others) (length-writes_from queue (suc n) entries)
 
 -- From a place in a list of entries on, the writes are those of the entry there and those of all after it.
-pub entry_and_others : (entries : List Entry) (piece : ℕ) → piece < length entries → all_writes_in (drop piece entries) ≡ writes_in (entry_at entries piece) + all_writes_in (drop (piece + 1) entries)
+pub entry_and_others : (entries : List Entry) (piece : ℕ) → piece < length entries → all_writes_in (drop piece entries) ≡ port_writes_in (entry_at entries piece) + all_writes_in (drop (piece + 1) entries)
 entry_and_others entries piece among = ap all_writes_in (drop_more entries piece GoesDown among)
 
 busy_by : (todo : List Label) (waiting : List Entry) (left : ℕ) → left ≡ length todo + all_writes_in waiting → not (left == 0) ≡ (not (is_empty_list todo) || not (is_empty_list waiting))
@@ -80,24 +80,24 @@ busy_by [] (entry ∷ waiting) left e = let some : 0 < left = omega arith in gri
 busy_by (label ∷ todo) waiting left e = let some : 0 < left = omega arith in grind (arith, nat_tests)
 
 -- An entry of which some writes are posted has as many labels left as it takes writes, less those posted.
-pub length-todo : (queue n next : ℕ) (entry : Entry) → length (drop next (labels_of queue n entry)) ≡ writes_in entry - next
+pub length-todo : (queue n next : ℕ) (entry : Entry) → length (drop next (labels_of queue n entry)) ≡ port_writes_in entry - next
 length-todo queue n next entry = length-drop next (labels_of queue n entry) ∙ ap (λ all. all - next) (length-labels_of queue n entry)
 
 -- what is left of a frame, by the count
-pub left_is : (entries : List Entry) (queue n piece next left : ℕ) → piece < length entries → next ≤ writes_in (entry_at entries piece)
+pub left_is : (entries : List Entry) (queue n piece next left : ℕ) → piece < length entries → next ≤ port_writes_in (entry_at entries piece)
     → left + next ≡ all_writes_in (drop piece entries)
     → left ≡ length (drop next (labels_of queue n (entry_at entries piece))) + all_writes_in (drop (piece + 1) entries)
 left_is entries queue n piece next left among some all = omega (arith, entry_and_others entries piece among, length-todo queue n next (entry_at entries piece))
 
 -- The count of writes left is above 0 just where labels of the entry at hand are left or entries of its frame wait.
-pub busy_is : (entries : List Entry) (queue n piece next left : ℕ) → piece < length entries → next ≤ writes_in (entry_at entries piece)
+pub busy_is : (entries : List Entry) (queue n piece next left : ℕ) → piece < length entries → next ≤ port_writes_in (entry_at entries piece)
     → left + next ≡ all_writes_in (drop piece entries)
     → not (left == 0) ≡ (not (is_empty_list (drop next (labels_of queue n (entry_at entries piece)))) || not (is_empty_list (drop (piece + 1) entries)))
 busy_is entries queue n piece next left among some all =
     busy_by (drop next (labels_of queue n (entry_at entries piece))) (drop (piece + 1) entries) left (left_is entries queue n piece next left among some all)
 
 -- The count of writes left of a frame is the length of the list of its writes that are left to post.
-pub count_is : (entries : List Entry) (queue n m piece next left : ℕ) → piece < length entries → next ≤ writes_in (entry_at entries piece)
+pub count_is : (entries : List Entry) (queue n m piece next left : ℕ) → piece < length entries → next ≤ port_writes_in (entry_at entries piece)
     → left + next ≡ all_writes_in (drop piece entries)
     → left ≡ length (left_of_entry (entry_at entries piece) (drop next (labels_of queue n (entry_at entries piece))) ++ writes_from queue m (drop (piece + 1) entries))
 count_is entries queue n m piece next left among some all =

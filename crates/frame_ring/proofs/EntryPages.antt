@@ -14,7 +14,7 @@ use Rattle.pair_model.specs.Plans.{side_plan}
 use Rattle.pair_model.specs.Sizes.{header_bytes, layout_of, pieces_in}
 use Rattle.ring_geometry.specs.Geometry.{window_of}
 use Rattle.plan_numbers.specs.Memories.{memory_size}
-use Rattle.bridge_pair.specs.Bridge.{Bridge, IsBridge, bytes_of as memory_of, pages_of}
+use Rattle.bridge_pair.specs.Bridge.{Bridge, IsBridge, bridge_bytes_of as memory_of, pages_of}
 use Rattle.bridge_pair.specs.Pages.{PagesGrow}
 use Rattle.bridge_pair.proofs.Facade.{grows_further, grows_nothing, promised_still}
 use Rattle.frame_ring.specs.Outgoing.{entry_at}

@@ -12,7 +12,7 @@ use Rattle.lane_model.specs.declared.Phase.TheVariants.{Idle, Copying, Copied, C
 use Rattle.pair_model.specs.Sizes.{Sizes, layout_to, sizes_in}
 use Rattle.ring_geometry.specs.Geometry.{max_payload_of}
 use Rattle.bridge_pair.specs.Bridge.{Bridge, pages_of, with_pages}
-use Rattle.frame_ring.specs.Calls.{after_look, entry_found, found_seen, look_answer, look_found}
+use Rattle.frame_ring.specs.Calls.{port_after_look, entry_found, found_seen, port_look_answer, look_found}
 use Rattle.frame_ring.specs.Port.{PortState, Receiving, with_receiving}
 use Rattle.frame_ring.specs.PortView.{bytes_seen, with_room}
 use Rattle.frame_ring.specs.declared.RingLook.{RingLook}
@@ -27,11 +27,11 @@ not_idle Copied other = refl
 not_idle Cleared other = refl
 
 -- If the receiver isn't idle, a look is out of turn and leaves the port as it was.
-pub out_of_turn : (port : PortState) (bridge : Bridge) → is_idle port.receiving.phase ≡ false → (OutOfTurn ≡ look_answer port bridge) × (port ≡ after_look port bridge)
+pub out_of_turn : (port : PortState) (bridge : Bridge) → is_idle port.receiving.phase ≡ false → (OutOfTurn ≡ port_look_answer port bridge) × (port ≡ port_after_look port bridge)
 out_of_turn port bridge busy = (rw busy refl, rw busy refl)
 
 -- An idle receiver's look answers what was found.
-pub look_is : (port : PortState) (bridge : Bridge) (told : RingLook) → is_idle port.receiving.phase ≡ true → told ≡ look_found port.receiving (found_seen port bridge) → told ≡ look_answer port bridge
+pub look_is : (port : PortState) (bridge : Bridge) (told : RingLook) → is_idle port.receiving.phase ≡ true → told ≡ look_found port.receiving (found_seen port bridge) → told ≡ port_look_answer port bridge
 look_is port bridge told idle tells = rw idle tells
 
 nothing_found : (receiving : Receiving) (found : Found) (told : RingLook) → told ≡ look_found receiving found → ((number len : ℕ) → ¬ (told ≡ Ready number len)) → receiving ≡ entry_found receiving found
@@ -43,7 +43,7 @@ nothing_found receiving (AnEntry len left) told tells unlike = absurd (unlike re
 
 -- A look that doesn't come to ready leaves the port as it was.
 pub stays_at : (port : PortState) (bridge : Bridge) (told : RingLook) → is_idle port.receiving.phase ≡ true → told ≡ look_found port.receiving (found_seen port bridge)
-    → ((number len : ℕ) → ¬ (told ≡ Ready number len)) → port ≡ after_look port bridge
+    → ((number len : ℕ) → ¬ (told ≡ Ready number len)) → port ≡ port_after_look port bridge
 stays_at port bridge told idle tells unlike = rw idle (ap (with_receiving port) (nothing_found port.receiving (found_seen port bridge) told tells unlike))
 
 leaves_where : (sizes : Sizes) (header : Header) (receiving : Receiving) (gathered own number len : ℕ) (empty down other large longer : Bool)
@@ -63,7 +63,7 @@ leaves_where sizes header receiving gathered own number len false false false fa
 -- A look that is answered ready leaves the receiver at that entry, with as many entries after it as its header says.
 pub stands_at : (port : PortState) (bridge : Bridge) (number len left : ℕ) → is_idle port.receiving.phase ≡ true → Ready number len ≡ look_found port.receiving (found_seen port bridge)
     → left ≡ (header_in port.plan (bytes_seen bridge) port.side port.queue port.receiving.got).left
-    → with_receiving port (record port.receiving { phase = Copying; part = 0; len = len; left = left }) ≡ after_look port bridge
+    → with_receiving port (record port.receiving { phase = Copying; part = 0; len = len; left = left }) ≡ port_after_look port bridge
 stands_at port bridge number len left idle tells is_left =
     let header = header_in port.plan (bytes_seen bridge) port.side port.queue port.receiving.got in
     let sizes = sizes_in port.plan (layout_to port.plan port.side port.queue) in

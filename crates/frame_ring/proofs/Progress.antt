@@ -7,21 +7,21 @@ use Rattle.lane_model.specs.Tests.{is_empty_list}
 use Rattle.pair_model.specs.Labels.{labels_of}
 use Rattle.pair_model.specs.Pieces.{pieces_of}
 use Rattle.step_kinds.specs.declared.steps.Label.{Label}
-use Rattle.frame_ring.specs.Calls.{entries_begun, let_go, next_begun, rest_of}
-use Rattle.frame_ring.specs.Outgoing.{all_writes_in, entry_at, progress_at, writes_in}
-use Rattle.frame_ring.specs.Port.{Sending, is_busy}
+use Rattle.frame_ring.specs.Calls.{entries_begun, let_go, port_next_begun, rest_of}
+use Rattle.frame_ring.specs.Outgoing.{all_writes_in, entry_at, progress_at, port_writes_in}
+use Rattle.frame_ring.specs.Port.{Sending, is_port_busy}
 use Rattle.frame_ring.proofs.Entries.{busy_is, left_is, length-labels_of, length-pieces_of, length-todo}
 
 -- The next entry
 
 moves_by : (queue begun told : ℕ) (entry old : Entry) (todo : List Label) (waiting others : List Entry) → todo ≡ [] → waiting ≡ entry ∷ others
-    → next_begun queue (record { begun = begun; told = told; entry = old; todo = todo; waiting = waiting })
+    → port_next_begun queue (record { begun = begun; told = told; entry = old; todo = todo; waiting = waiting })
     ≡ record { begun = begun + 1; told = told; entry = entry; todo = labels_of queue begun entry; waiting = others }
 moves_by queue begun told entry old todo waiting others e more = rw (e, more) refl
 
 -- If all writes of an entry are posted and another of its frame follows, that one is begun, at its first write.
-pub next_moves : (entries : List Entry) (queue piece next begun told : ℕ) → piece + 1 < length entries → writes_in (entry_at entries piece) ≤ next
-    → progress_at queue entries (piece + 1) 0 (begun + 1) told ≡ next_begun queue (progress_at queue entries piece next begun told)
+pub next_moves : (entries : List Entry) (queue piece next begun told : ℕ) → piece + 1 < length entries → port_writes_in (entry_at entries piece) ≤ next
+    → progress_at queue entries (piece + 1) 0 (begun + 1) told ≡ port_next_begun queue (progress_at queue entries piece next begun told)
 next_moves entries queue piece next begun told more all =
     let none : drop next (labels_of queue (begun - 1) (entry_at entries piece)) ≡ [] = drop_all next (labels_of queue (begun - 1) (entry_at entries piece)) (omega (arith, length-labels_of queue (begun - 1) (entry_at entries piece))) in
     let others : drop (piece + 1) entries ≡ entry_at entries (piece + 1) ∷ drop (piece + 1 + 1) entries = drop_more entries (piece + 1) GoesDown more in
@@ -31,13 +31,13 @@ next_moves entries queue piece next begun told more all =
 
 -- Beginning the next entry changes nothing of a sender that has labels left to post or no entry waiting.
 pub stays_by : (queue begun told : ℕ) (entry : Entry) (todo : List Label) (waiting : List Entry) → (todo ≡ [] → waiting ≡ [])
-    → next_begun queue (record { begun = begun; told = told; entry = entry; todo = todo; waiting = waiting }) ≡ record { begun = begun; told = told; entry = entry; todo = todo; waiting = waiting }
+    → port_next_begun queue (record { begun = begun; told = told; entry = entry; todo = todo; waiting = waiting }) ≡ record { begun = begun; told = told; entry = entry; todo = todo; waiting = waiting }
 stays_by queue begun told entry [] waiting h = let none = h refl in rw none refl
 stays_by queue begun told entry (label ∷ todo) waiting h = refl
 
 -- Beginning the next entry changes nothing while writes of the entry at hand are left, or where it is the last.
-pub next_stays : (entries : List Entry) (queue piece next begun told : ℕ) → (writes_in (entry_at entries piece) ≤ next → length entries ≤ piece + 1)
-    → progress_at queue entries piece next begun told ≡ next_begun queue (progress_at queue entries piece next begun told)
+pub next_stays : (entries : List Entry) (queue piece next begun told : ℕ) → (port_writes_in (entry_at entries piece) ≤ next → length entries ≤ piece + 1)
+    → progress_at queue entries piece next begun told ≡ port_next_begun queue (progress_at queue entries piece next begun told)
 next_stays entries queue piece next begun told last =
     let labels = labels_of queue (begun - 1) (entry_at entries piece) in
     sym (stays_by queue begun told (entry_at entries piece) (drop next labels) (drop (piece + 1) entries)
@@ -60,45 +60,45 @@ idle_is [] (y ∷ ys) e = absurd (cc e)
 idle_is (x ∷ xs) [] e = absurd (cc e)
 idle_is (x ∷ xs) (y ∷ ys) e = absurd (cc e)
 
-goes_on : (sending : Sending) → is_busy sending ≡ true → let_go sending ≡ sending
+goes_on : (sending : Sending) → is_port_busy sending ≡ true → let_go sending ≡ sending
 goes_on sending busy = rw busy refl
 
-is_gone : (sending : Sending) → is_busy sending ≡ false → let_go sending ≡ record sending { entry = GoesDown }
+is_gone : (sending : Sending) → is_port_busy sending ≡ false → let_go sending ≡ record sending { entry = GoesDown }
 is_gone sending idle = rw idle refl
 
 -- where writes are left, one of the entry at hand is, unless an entry waits
-pub one_is_left : (entries : List Entry) (queue n piece next left : ℕ) → piece < length entries → next ≤ writes_in (entry_at entries piece)
+pub one_is_left : (entries : List Entry) (queue n piece next left : ℕ) → piece < length entries → next ≤ port_writes_in (entry_at entries piece)
     → left + next ≡ all_writes_in (drop piece entries)
     → (is_empty_list (drop next (labels_of queue n (entry_at entries piece))) ≡ true → is_empty_list (drop (piece + 1) entries) ≡ true)
-    → 0 < left → next < writes_in (entry_at entries piece)
+    → 0 < left → next < port_writes_in (entry_at entries piece)
 one_is_left entries queue n piece next left among some all moved more =
     at_lists (drop next (labels_of queue n (entry_at entries piece))) (drop (piece + 1) entries) (length-todo queue n next (entry_at entries piece)) (left_is entries queue n piece next left among some all) moved
   where
-    at_lists : (todo : List Label) (waiting : List Entry) → length todo ≡ writes_in (entry_at entries piece) - next → left ≡ length todo + all_writes_in waiting
-        → (is_empty_list todo ≡ true → is_empty_list waiting ≡ true) → next < writes_in (entry_at entries piece)
+    at_lists : (todo : List Label) (waiting : List Entry) → length todo ≡ port_writes_in (entry_at entries piece) - next → left ≡ length todo + all_writes_in waiting
+        → (is_empty_list todo ≡ true → is_empty_list waiting ≡ true) → next < port_writes_in (entry_at entries piece)
     at_lists [] [] len e moved = absurd (omega arith)
     at_lists [] (entry ∷ waiting) len e moved = absurd (let h = moved refl in cc h)
     at_lists (label ∷ todo) waiting len e moved = omega arith
 
 -- If more of a frame is left after it, posting a write takes the sender one write further in the same entry.
-pub posted_more : (entries : List Entry) (queue piece next begun told left : ℕ) → piece < length entries → next < writes_in (entry_at entries piece)
+pub posted_more : (entries : List Entry) (queue piece next begun told left : ℕ) → piece < length entries → next < port_writes_in (entry_at entries piece)
     → left + (next + 1) ≡ all_writes_in (drop piece entries) → 0 < left
     → progress_at queue entries piece (next + 1) begun told
     ≡ let_go (record (progress_at queue entries piece next begun told) { todo = rest_of (drop next (labels_of queue (begun - 1) (entry_at entries piece))) })
 posted_more entries queue piece next begun told left among some all more =
     let labels = labels_of queue (begun - 1) (entry_at entries piece) in
-    let busy : is_busy (progress_at queue entries piece (next + 1) begun told) ≡ true = sym (busy_is entries queue (begun - 1) piece (next + 1) left among (omega arith) all) ∙ grind (arith, nat_tests) in
+    let busy : is_port_busy (progress_at queue entries piece (next + 1) begun told) ≡ true = sym (busy_is entries queue (begun - 1) piece (next + 1) left among (omega arith) all) ∙ grind (arith, nat_tests) in
     sym (goes_on (progress_at queue entries piece (next + 1) begun told) busy)
     ∙ ap (λ todo. let_go (record (progress_at queue entries piece next begun told) { todo = todo })) (rest_from next labels)
 
 -- Posting the last write of a frame leaves a sender with nothing to post, nothing waiting and its entry let go.
-pub posted_last : (entries : List Entry) (queue piece next begun told : ℕ) → piece < length entries → next < writes_in (entry_at entries piece)
+pub posted_last : (entries : List Entry) (queue piece next begun told : ℕ) → piece < length entries → next < port_writes_in (entry_at entries piece)
     → next + 1 ≡ all_writes_in (drop piece entries)
     → record { begun = begun; told = told; entry = GoesDown; todo = []; waiting = [] }
     ≡ let_go (record (progress_at queue entries piece next begun told) { todo = rest_of (drop next (labels_of queue (begun - 1) (entry_at entries piece))) })
 posted_last entries queue piece next begun told among some all =
     let labels = labels_of queue (begun - 1) (entry_at entries piece) in
-    let idle : is_busy (progress_at queue entries piece (next + 1) begun told) ≡ false = sym (busy_is entries queue (begun - 1) piece (next + 1) 0 among (omega arith) (omega arith)) in
+    let idle : is_port_busy (progress_at queue entries piece (next + 1) begun told) ≡ false = sym (busy_is entries queue (begun - 1) piece (next + 1) 0 among (omega arith) (omega arith)) in
     let none = idle_is (drop (next + 1) labels) (drop (piece + 1) entries) idle in
     ap (λ todo. record { begun = begun; told = told; entry = GoesDown; todo = todo; waiting = [] }) (sym none.0)
     ∙ ap (λ waiting. record { begun = begun; told = told; entry = GoesDown; todo = drop (next + 1) labels; waiting = waiting }) (sym none.1)

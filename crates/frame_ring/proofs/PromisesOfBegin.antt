@@ -11,18 +11,18 @@ use Rattle.pair_model.specs.Pieces.{pieces_of}
 use Rattle.bridge_pair.specs.Bridge.{Bridge, flight_of, pages_of, with_pages}
 use Rattle.bridge_pair.specs.Pages.{PagesGrow}
 use Rattle.bridge_pair.proofs.Facade.{grows_further, grows_nothing, promised_still}
-use Rattle.frame_ring.specs.Calls.{down_begun, entries_begun, frame_begun, sizes_seen}
+use Rattle.frame_ring.specs.Calls.{down_begun, entries_begun, port_frame_begun, sizes_seen}
 use Rattle.frame_ring.specs.Outgoing.{Outgoing, all_writes_in, entry_at, with_progress}
-use Rattle.frame_ring.specs.Port.{Left, PortState, Sending, is_busy, left_of_entry, unused_of, with_sending, writes_from, writes_left}
+use Rattle.frame_ring.specs.Port.{Left, PortState, Sending, is_port_busy, left_of_entry, unused_of, with_sending, writes_from, writes_left}
 use Rattle.frame_ring.specs.Promises.{AreEntriesPromised, IsEntryPromised, TouchesEntries, TouchesEntry}
 use Rattle.frame_ring.specs.Rings.{QueueOf}
-use Rattle.frame_ring.specs.PortView.{HasPages, HasPagesIn, IsLeftReady, TouchesLeft, with_room}
+use Rattle.frame_ring.specs.PortView.{HasPortPages, HasPagesIn, IsLeftReady, TouchesLeft, with_room}
 use Rattle.frame_ring.proofs.Entries.{length-writes_from}
 use Rattle.frame_ring.proofs.Progress.{some_pieces}
 use Rattle.frame_ring.proofs.WritePages.{writes_ready, writes_touched}
 
 -- nothing is left of a sender that isn't busy
-pub nothing_left : (queue : ℕ) (sending : Sending) → is_busy sending ≡ false → left_of_entry sending.entry sending.todo ++ writes_from queue sending.begun sending.waiting ≡ []
+pub nothing_left : (queue : ℕ) (sending : Sending) → is_port_busy sending ≡ false → left_of_entry sending.entry sending.todo ++ writes_from queue sending.begun sending.waiting ≡ []
 nothing_left queue sending idle = at_lists sending.todo sending.waiting idle where
   at_lists : (todo : List Label) (waiting : List Entry) → (not (is_empty_list todo) || not (is_empty_list waiting)) ≡ false → left_of_entry sending.entry todo ++ writes_from queue sending.begun waiting ≡ []
   at_lists [] [] e = refl
@@ -40,7 +40,7 @@ begun_writes queue told sending (entry ∷ entries) some =
     ap (λ n. left_of_entry entry (labels_of queue sending.begun entry) ++ writes_from queue n entries) n
 
 -- If a sender with nothing left begins entries, its port's unused promises grow by the writes that these take.
-pub unused_more : (port : PortState) (after : Sending) (entries : List Entry) → is_busy port.sending ≡ false
+pub unused_more : (port : PortState) (after : Sending) (entries : List Entry) → is_port_busy port.sending ≡ false
     → left_of_entry after.entry after.todo ++ writes_from port.queue after.begun after.waiting ≡ writes_from port.queue port.sending.begun entries
     → unused_of (with_sending port after) - unused_of port ≡ all_writes_in entries
 unused_more port after entries idle is =
@@ -62,7 +62,7 @@ own_pages bridge B pages more = refl
 pub begun_ready : (port : PortState) (rings : QueueOf) (after : Sending) (entries : List Entry) (own peer new : List ℕ) (touched : ℕ → Type 0)
     → rings.plan ≡ port.plan → rings.side ≡ port.side → rings.queue ≡ port.queue
     → left_of_entry after.entry after.todo ++ writes_from port.queue after.begun after.waiting ≡ writes_from port.queue port.sending.begun entries
-    → PagesGrow touched peer new → AreEntriesPromised rings port.sending.begun entries new → HasPages port own peer → HasPages (with_sending port after) own new
+    → PagesGrow touched peer new → AreEntriesPromised rings port.sending.begun entries new → HasPortPages port own peer → HasPortPages (with_sending port after) own new
 begun_ready port rings after entries own peer new touched plan side queue is grow promised ready =
     record {
       writes = subst (All (IsLeftReady port.plan port.side new)) (sym is) (rw (← plan, ← side, ← queue) (writes_ready rings port.sending.begun entries new promised));
@@ -71,7 +71,7 @@ begun_ready port rings after entries own peer new touched plan side queue is gro
     }
 
 -- No entry waits at a sender that isn't busy.
-pub none_waits : (sending : Sending) → is_busy sending ≡ false → length sending.waiting ≡ 0
+pub none_waits : (sending : Sending) → is_port_busy sending ≡ false → length sending.waiting ≡ 0
 none_waits sending idle = at_lists sending.todo sending.waiting idle where
   at_lists : (todo : List Label) (waiting : List Entry) → (not (is_empty_list todo) || not (is_empty_list waiting)) ≡ false → length waiting ≡ 0
   at_lists todo [] e = refl
@@ -115,7 +115,7 @@ one_promised rings n entry pages promised (suc k) among = absurd (omega (arith, 
 
 -- What is known as a port begins these entries: from which number on, what is promised, and what becomes of the sender.
 pub record Begins (port : PortState) (after : Sending) (entries : List Entry) (pair mid new : Bridge) (count : ℕ) : Type 0 where
-  pub idle : is_busy port.sending ≡ false
+  pub idle : is_port_busy port.sending ≡ false
   pub some : 0 < length entries
   pub after_is : after ≡ record (entries_begun port.queue port.sending entries) { told = after.told }
   pub grow : PagesGrow (TouchesEntries (record { plan = port.plan; side = port.side; queue = port.queue }) port.sending.begun entries) (pages_of pair (other_side port.side)) (pages_of mid (other_side port.side))
@@ -152,8 +152,8 @@ begins_ready port after entries pair mid new count h ready =
     let peer : pages_of mid (other_side port.side) ≡ pages_of new (other_side port.side) = sym (ap (λ (bridge : Bridge). pages_of bridge (other_side port.side)) h.room) in
     let own : pages_of pair port.side ≡ pages_of new port.side =
     sym (ap (λ (bridge : Bridge). pages_of bridge port.side) (rest_is pair mid new port.side count count h.pages h.room refl) ∙ own_pages pair port.side (pages_of new (other_side port.side)) count) in
-    subst (λ own. HasPages (with_sending port after) own (pages_of new (other_side port.side))) own
-    (subst (λ peer. HasPages (with_sending port after) (pages_of pair port.side) peer) peer
+    subst (λ own. HasPortPages (with_sending port after) own (pages_of new (other_side port.side))) own
+    (subst (λ peer. HasPortPages (with_sending port after) (pages_of pair port.side) peer) peer
     (begun_ready port rings after entries (pages_of pair port.side) (pages_of pair (other_side port.side)) (pages_of mid (other_side port.side)) (TouchesEntries rings port.sending.begun entries)
     refl refl refl (lefts_are port after entries h.some h.after_is) h.grow h.promised ready))
 
@@ -161,7 +161,7 @@ abbrev pub rings_of : PortState → QueueOf
 rings_of port = record { plan = port.plan; side = port.side; queue = port.queue }
 
 -- If a sender isn't busy, no entry waits, so the next entry's number is just the count of those begun.
-pub from_is : (port : PortState) (from : ℕ) → is_busy port.sending ≡ false → from ≡ port.sending.begun + length port.sending.waiting → from ≡ port.sending.begun
+pub from_is : (port : PortState) (from : ℕ) → is_port_busy port.sending ≡ false → from ≡ port.sending.begun + length port.sending.waiting → from ≡ port.sending.begun
 from_is port from idle is = omega (arith, is, none_waits port.sending idle)
 
 -- A frame
@@ -170,12 +170,12 @@ abbrev pub pieces_seen : PortState → List ℕ → List Entry
 pieces_seen port frame = pieces_of (sizes_seen port).largest frame
 
 -- A port that isn't busy begins a frame as its pieces, where their pages and room for their writes are promised.
-pub frame_begins : (port : PortState) (frame : List ℕ) (pair mid new : Bridge) (from seen count : ℕ) → is_busy port.sending ≡ false → from ≡ port.sending.begun + length port.sending.waiting
+pub frame_begins : (port : PortState) (frame : List ℕ) (pair mid new : Bridge) (from seen count : ℕ) → is_port_busy port.sending ≡ false → from ≡ port.sending.begun + length port.sending.waiting
     → seen ≡ (sizes_seen port).largest → count ≡ all_writes_in (pieces_of seen frame)
     → mid ≡ with_pages pair (other_side port.side) (pages_of mid (other_side port.side))
     → PagesGrow (TouchesEntries (rings_of port) from (pieces_seen port frame)) (pages_of pair (other_side port.side)) (pages_of mid (other_side port.side))
     → AreEntriesPromised (rings_of port) from (pieces_seen port frame) (pages_of mid (other_side port.side))
-    → new ≡ with_room mid port.side count → Begins port (frame_begun port frame).sending (pieces_seen port frame) pair mid new count
+    → new ≡ with_room mid port.side count → Begins port (port_frame_begun port frame).sending (pieces_seen port frame) pair mid new count
 frame_begins port frame pair mid new from seen count idle is_from is_seen is_count pages grow promised room =
     let first = from_is port from idle is_from in
     record {
@@ -190,15 +190,15 @@ frame_begins port frame pair mid new from seen count idle is_from is_seen is_cou
     }
 
 -- Pages that grow only if a frame's pieces touch them grow only if the writes left after its begin do.
-pub frame_grows : (port : PortState) (frame old new : List ℕ) (from : ℕ) → is_busy port.sending ≡ false → from ≡ port.sending.begun + length port.sending.waiting
-    → PagesGrow (TouchesEntries (rings_of port) from (pieces_seen port frame)) old new → PagesGrow (TouchesLeft port.plan port.side (writes_left (frame_begun port frame))) old new
+pub frame_grows : (port : PortState) (frame old new : List ℕ) (from : ℕ) → is_port_busy port.sending ≡ false → from ≡ port.sending.begun + length port.sending.waiting
+    → PagesGrow (TouchesEntries (rings_of port) from (pieces_seen port frame)) old new → PagesGrow (TouchesLeft port.plan port.side (writes_left (port_frame_begun port frame))) old new
 frame_grows port frame old new from idle is_from grow =
-    begun_grows (rings_of port) from port.sending.begun (pieces_seen port frame) (writes_left (frame_begun port frame)) old new (from_is port from idle is_from)
-    (lefts_are port (frame_begun port frame).sending (pieces_seen port frame) (some_pieces (sizes_seen port).largest frame) refl) grow
+    begun_grows (rings_of port) from port.sending.begun (pieces_seen port frame) (writes_left (port_frame_begun port frame)) old new (from_is port from idle is_from)
+    (lefts_are port (port_frame_begun port frame).sending (pieces_seen port frame) (some_pieces (sizes_seen port).largest frame) refl) grow
 
 -- A sender that agrees with its port still agrees with it after both have begun the same frame.
 pub frame_sent : (port : PortState) (frame : List ℕ) (sender new : Outgoing) → sender.sending ≡ port.sending → sender.queue ≡ port.queue → sender.largest ≡ (sizes_seen port).largest
-    → new ≡ with_progress sender (record (entries_begun sender.queue sender.sending (pieces_of sender.largest frame)) { told = sender.sending.told + 1 }) → new.sending ≡ (frame_begun port frame).sending
+    → new ≡ with_progress sender (record (entries_begun sender.queue sender.sending (pieces_of sender.largest frame)) { told = sender.sending.told + 1 }) → new.sending ≡ (port_frame_begun port frame).sending
 frame_sent port frame sender new is queue largest after =
     ap (λ (outgoing : Outgoing). outgoing.sending) after
     ∙ ap (λ (sending : Sending). record (entries_begun sender.queue sending (pieces_of sender.largest frame)) { told = sending.told + 1 }) is
@@ -208,7 +208,7 @@ frame_sent port frame sender new is queue largest after =
 -- A link-down entry
 
 -- A port that isn't busy begins a link-down entry, where its pages and room for its four writes are promised.
-pub down_begins : (port : PortState) (pair mid new : Bridge) (from : ℕ) → is_busy port.sending ≡ false → from ≡ port.sending.begun + length port.sending.waiting
+pub down_begins : (port : PortState) (pair mid new : Bridge) (from : ℕ) → is_port_busy port.sending ≡ false → from ≡ port.sending.begun + length port.sending.waiting
     → mid ≡ with_pages pair (other_side port.side) (pages_of mid (other_side port.side))
     → PagesGrow (TouchesEntry (rings_of port) from 0) (pages_of pair (other_side port.side)) (pages_of mid (other_side port.side))
     → IsEntryPromised (rings_of port) from 0 (pages_of mid (other_side port.side))
@@ -227,7 +227,7 @@ down_begins port pair mid new from idle is_from pages grow promised room =
     }
 
 -- Pages that grow only if a link-down entry touches them grow only if the writes left after its begin do.
-pub down_grows : (port : PortState) (old new : List ℕ) (from : ℕ) → is_busy port.sending ≡ false → from ≡ port.sending.begun + length port.sending.waiting
+pub down_grows : (port : PortState) (old new : List ℕ) (from : ℕ) → is_port_busy port.sending ≡ false → from ≡ port.sending.begun + length port.sending.waiting
     → PagesGrow (TouchesEntry (rings_of port) from 0) old new → PagesGrow (TouchesLeft port.plan port.side (writes_left (down_begun port))) old new
 down_grows port old new from idle is_from grow =
     begun_grows (rings_of port) from port.sending.begun (GoesDown ∷ []) (writes_left (down_begun port)) old new (from_is port from idle is_from)

@@ -17,9 +17,9 @@ use Rattle.lane_model.specs.declared.Phase.TheVariants.{Copying}
 use Rattle.bridge_pair.specs.Bridge.{Bridge, pages_of, with_pages}
 use Rattle.bridge_pair.specs.Pages.{PagesGrow}
 use Rattle.bridge_pair.proofs.Facade.{grows_further, grows_nothing, promised_still}
-use Rattle.frame_ring.specs.Calls.{FindsEntry, TouchedByFlags, TouchedByLook, found_seen, look_answer, look_found}
+use Rattle.frame_ring.specs.Calls.{PortFindsEntry, TouchedByFlags, TouchedByLook, found_seen, port_look_answer, look_found}
 use Rattle.frame_ring.specs.Port.{Left, PortState, Receiving, with_receiving, writes_left}
-use Rattle.frame_ring.specs.PortView.{HasPages, IsLeftReady, IsReady, IsReadyToLand, TouchesWrite, bytes_seen, with_room}
+use Rattle.frame_ring.specs.PortView.{HasPortPages, IsLeftReady, IsPortReady, IsReadyToLand, TouchesWrite, bytes_seen, with_room}
 use Rattle.frame_ring.specs.declared.RingLook.TheVariants.{OutOfTurn, Ready}
 
 -- Pages of the two sides
@@ -46,7 +46,7 @@ on_err (Err e) p = p
 
 -- Writes that were ready stay so
 
-write_still : (plan : PairPlan) (side : Side) (touched : ℕ → Type 0) (old new : List ℕ) (write : Option WindowWrite) → PagesGrow touched old new → IsReady plan side old write → IsReady plan side new write
+write_still : (plan : PairPlan) (side : Side) (touched : ℕ → Type 0) (old new : List ℕ) (write : Option WindowWrite) → PagesGrow touched old new → IsPortReady plan side old write → IsPortReady plan side new write
 write_still plan side touched old new None grow ready = tt
 write_still plan side touched old new (Some write) grow ready = λ reach. promised_still touched old new _ (length write.bytes) grow (ready reach)
 
@@ -59,7 +59,7 @@ writes_still plan side touched old new lefts grow all =
 pub found_ready : (port : PortState) (len left : ℕ) (own peer own_new peer_new : List ℕ) (touched : ℕ → Type 0)
     → PagesGrow touched peer peer_new → ArePromised (own_header port.plan port.side port.queue port.receiving.got + flags_offset port.plan) 4 own_new
     → IsReadyToLand port.plan port.side peer_new (index_write port.plan port.side port.queue port.receiving.got)
-    → HasPages port own peer → HasPages (with_receiving port (record port.receiving { phase = Copying; part = 0; len = len; left = left })) own_new peer_new
+    → HasPortPages port own peer → HasPortPages (with_receiving port (record port.receiving { phase = Copying; part = 0; len = len; left = left })) own_new peer_new
 found_ready port len left own peer own_new peer_new touched grow flags index_word ready =
     record {
       writes = writes_still port.plan port.side touched peer peer_new (writes_left port) grow ready.writes;
@@ -77,7 +77,7 @@ answer_of receiving (TooManyBytes many most) number len e = absurd (cc e)
 answer_of receiving (AnEntry size left) number len e = let same : size ≡ len = cc in ap (Ready receiving.got) same
 
 -- An idle receiver's look that is answered ready finds an entry, numbered by the entries taken so far.
-pub finds : (port : PortState) (bridge : Bridge) (found : Found) (number len : ℕ) → is_idle port.receiving.phase ≡ true → found ≡ found_seen port bridge → Ready number len ≡ look_found port.receiving found → FindsEntry port bridge
+pub finds : (port : PortState) (bridge : Bridge) (found : Found) (number len : ℕ) → is_idle port.receiving.phase ≡ true → found ≡ found_seen port bridge → Ready number len ≡ look_found port.receiving found → PortFindsEntry port bridge
 finds port bridge found number len idle is ready = (len, rw idle (answer_of port.receiving (found_seen port bridge) number len (ready ∙ ap (look_found port.receiving) is)))
 
 fits_where : (sizes : Sizes) (header : Header) (receiving : Receiving) (gathered own len : ℕ) (empty down other large longer : Bool) → nat_lt sizes.most (gathered + header.len) ≡ longer
@@ -94,7 +94,7 @@ fits_where sizes header receiving gathered own len false false false false false
     subst (λ n. gathered + n ≤ sizes.most) same (ltb-false sizes.most (gathered + header.len) is)
 
 -- The bytes of an entry that a look finds make its frame no longer than one may be.
-pub entry_fits : (port : PortState) (bridge : Bridge) (len : ℕ) → look_answer port bridge ≡ Ready port.receiving.got len
+pub entry_fits : (port : PortState) (bridge : Bridge) (len : ℕ) → port_look_answer port bridge ≡ Ready port.receiving.got len
     → length port.receiving.gathered + len ≤ (sizes_in port.plan (layout_to port.plan port.side port.queue)).most
 entry_fits port bridge len found = at_phase (is_idle port.receiving.phase) found where
   at_phase : (idle : Bool) → (if idle then look_found port.receiving (found_seen port bridge) else OutOfTurn) ≡ Ready port.receiving.got len
@@ -107,14 +107,14 @@ entry_fits port bridge len found = at_phase (is_idle port.receiving.phase) found
   at_phase false e = absurd (cc e)
 
 -- If a look finds an entry, pages that grow only by its index write grow only by what the look may promise.
-pub look_touches : (port : PortState) (bridge : Bridge) (old new : List ℕ) → FindsEntry port bridge
+pub look_touches : (port : PortState) (bridge : Bridge) (old new : List ℕ) → PortFindsEntry port bridge
     → PagesGrow (TouchesWrite port.plan port.side (index_write port.plan port.side port.queue port.receiving.got)) old new → PagesGrow (TouchedByLook port bridge) old new
 look_touches port bridge old new finds grow =
     grows_further (TouchedByLook port bridge) (TouchesWrite port.plan port.side (index_write port.plan port.side port.queue port.receiving.got)) old old new (grows_nothing (TouchedByLook port bridge) old) grow
     (λ page touch. (finds, touch))
 
 -- If a look finds an entry, pages that grow only by the entry's flags grow only by what the look may promise.
-pub flags_touch : (port : PortState) (bridge : Bridge) (old new : List ℕ) → FindsEntry port bridge
+pub flags_touch : (port : PortState) (bridge : Bridge) (old new : List ℕ) → PortFindsEntry port bridge
     → PagesGrow (Touches (own_header port.plan port.side port.queue port.receiving.got + flags_offset port.plan) 4) old new → PagesGrow (TouchedByFlags port bridge) old new
 flags_touch port bridge old new finds grow =
     grows_further (TouchedByFlags port bridge) (Touches (own_header port.plan port.side port.queue port.receiving.got + flags_offset port.plan) 4) old old new (grows_nothing (TouchedByFlags port bridge) old) grow

@@ -14,9 +14,9 @@ use Rattle.lane_model.specs.declared.Phase.{Phase}
 use Rattle.lane_model.specs.declared.Phase.TheVariants.{Idle, Copying, Copied, Cleared}
 use Rattle.pair_model.specs.Labels.{labels_of}
 use Rattle.bridge_pair.specs.Bridge.{Bridge, pages_of, with_bytes}
-use Rattle.frame_ring.specs.Calls.{after_post, first_label, first_posted, let_go, more_entries, more_parts, next_begun, part_copied, posted_by, rest_of}
-use Rattle.frame_ring.specs.Port.{Left, PortState, Receiving, Sending, is_busy, left_of_entry, with_receiving, writes_from}
-use Rattle.frame_ring.specs.PortView.{HasPages, HasPagesIn, IsLeftReady, IsReadyToLand, entry_at_hand, reaches, ring_posted, window_posted}
+use Rattle.frame_ring.specs.Calls.{port_after_post, first_label, first_posted, let_go, more_entries, more_parts, port_next_begun, part_copied, posted_by, rest_of}
+use Rattle.frame_ring.specs.Port.{Left, PortState, Receiving, Sending, is_port_busy, left_of_entry, with_receiving, writes_from}
+use Rattle.frame_ring.specs.PortView.{HasPortPages, HasPagesIn, IsLeftReady, IsReadyToLand, entry_at_hand, reaches, ring_posted, window_posted}
 
 -- a port has its pages however it is seen
 pub pages_seen : (port seen : PortState) (pair : Bridge) → port ≡ seen → HasPagesIn seen pair → HasPagesIn port pair
@@ -24,9 +24,9 @@ pages_seen port seen pair is ready = subst (λ (port : PortState). HasPagesIn po
 
 -- Receiving
 
-again : (port : PortState) (receiving : Receiving) (own peer : List ℕ) → HasPages port own peer
+again : (port : PortState) (receiving : Receiving) (own peer : List ℕ) → HasPortPages port own peer
     → (is_idle receiving.phase ≡ false → (is_idle port.receiving.phase ≡ false) × (entry_at_hand (with_receiving port receiving) ≡ entry_at_hand port))
-    → HasPages (with_receiving port receiving) own peer
+    → HasPortPages (with_receiving port receiving) own peer
 again port receiving own peer ready same =
     record {
       writes = ready.writes;
@@ -60,16 +60,16 @@ to_copied Copied got is = absurd (cc is)
 to_copied Cleared got is = absurd (cc is)
 
 -- A port keeps its promised pages as it clears the entry that it has copied.
-pub cleared_ready : (port : PortState) (own peer : List ℕ) → is_copied port.receiving.phase ≡ true → HasPages port own peer → HasPages (with_receiving port (record port.receiving { phase = Cleared })) own peer
+pub cleared_ready : (port : PortState) (own peer : List ℕ) → is_copied port.receiving.phase ≡ true → HasPortPages port own peer → HasPortPages (with_receiving port (record port.receiving { phase = Cleared })) own peer
 unfolding hand SameEntry
 cleared_ready port own peer is ready = again port (record port.receiving { phase = Cleared }) own peer ready (to_cleared port.receiving.phase port.receiving.got is)
 
 -- A port keeps its promised pages as it copies the next part of an entry.
-pub copied_ready : (port : PortState) (gathered : List ℕ) (own peer : List ℕ) → is_copying port.receiving.phase ≡ true → HasPages port own peer → HasPages (with_receiving port (part_copied port.receiving gathered)) own peer
+pub copied_ready : (port : PortState) (gathered : List ℕ) (own peer : List ℕ) → is_copying port.receiving.phase ≡ true → HasPortPages port own peer → HasPortPages (with_receiving port (part_copied port.receiving gathered)) own peer
 unfolding hand SameEntry
 copied_ready port gathered own peer is ready = at_tests (more_parts port.receiving) (more_entries port.receiving) where
   at_tests : (parts entries : Bool) →
-      HasPages (with_receiving port
+      HasPortPages (with_receiving port
       (if parts then record port.receiving { part = port.receiving.part + 1; gathered = gathered }
       else if entries then record port.receiving { got = port.receiving.got + 1; phase = Copied; gathered = gathered }
       else record port.receiving { got = port.receiving.got + 1; phase = Copied; gathered = []; done = port.receiving.done + 1 })) own peer
@@ -79,7 +79,7 @@ copied_ready port gathered own peer is ready = at_tests (more_parts port.receivi
       again port (record port.receiving { got = port.receiving.got + 1; phase = Copied; gathered = []; done = port.receiving.done + 1 }) own peer ready (to_copied port.receiving.phase port.receiving.got is)
 
 -- A port that has copied an entry has the pages promised of that entry's flags in its own memory.
-pub copied_flags : (port : PortState) (own peer : List ℕ) → is_copied port.receiving.phase ≡ true → HasPages port own peer
+pub copied_flags : (port : PortState) (own peer : List ℕ) → is_copied port.receiving.phase ≡ true → HasPortPages port own peer
     → ArePromised (own_header port.plan port.side port.queue (port.receiving.got - 1) + flags_offset port.plan) 4 own
 copied_flags port own peer is ready = at_phase port.receiving.phase is ready.flags where
   at_phase : (phase : Phase) → is_copied phase ≡ true
@@ -91,7 +91,7 @@ copied_flags port own peer is ready = at_phase port.receiving.phase is ready.fla
   at_phase Cleared e flags = absurd (cc e)
 
 -- A port that has cleared an entry has the pages promised that the entry's index write fills at the peer.
-pub cleared_index_word : (port : PortState) (own peer : List ℕ) → is_cleared port.receiving.phase ≡ true → HasPages port own peer
+pub cleared_index_word : (port : PortState) (own peer : List ℕ) → is_cleared port.receiving.phase ≡ true → HasPortPages port own peer
     → IsReadyToLand port.plan port.side peer (index_write port.plan port.side port.queue (port.receiving.got - 1))
 cleared_index_word port own peer is ready = at_phase port.receiving.phase is ready.index_word where
   at_phase : (phase : Phase) → is_cleared phase ≡ true
@@ -135,7 +135,7 @@ pages_of_first bridge side any entry (label ∷ todo) = pages_of_write bridge si
 
 -- A post by a port leaves the promised pages of both sides as they were.
 pub pages_posted : (port : PortState) (bridge : Bridge) (any : Side) → pages_of (posted_by port bridge) any ≡ pages_of bridge any
-pages_posted port bridge any = pages_of_first bridge port.side any (next_begun port.queue port.sending).entry (next_begun port.queue port.sending).todo
+pages_posted port bridge any = pages_of_first bridge port.side any (port_next_begun port.queue port.sending).entry (port_next_begun port.queue port.sending).todo
 
 -- Sending
 
@@ -143,7 +143,7 @@ abbrev pub lefts : ℕ → Sending → List Left
 lefts queue sending = left_of_entry sending.entry sending.todo ++ writes_from queue sending.begun sending.waiting
 
 next_by : (queue begun told : ℕ) (entry : Entry) (todo : List Label) (waiting : List Entry)
-    → lefts queue (next_begun queue (record { begun = begun; told = told; entry = entry; todo = todo; waiting = waiting })) ≡ lefts queue (record { begun = begun; told = told; entry = entry; todo = todo; waiting = waiting })
+    → lefts queue (port_next_begun queue (record { begun = begun; told = told; entry = entry; todo = todo; waiting = waiting })) ≡ lefts queue (record { begun = begun; told = told; entry = entry; todo = todo; waiting = waiting })
 next_by queue begun told entry [] [] = refl
 next_by queue begun told entry [] (first ∷ others) =
     let e : begun + 1 ≡ suc begun = omega arith in
@@ -151,7 +151,7 @@ next_by queue begun told entry [] (first ∷ others) =
 next_by queue begun told entry (label ∷ todo) waiting = refl
 
 -- what is left stays as the next entry is begun
-pub next_keeps : (queue : ℕ) (sending : Sending) → lefts queue (next_begun queue sending) ≡ lefts queue sending
+pub next_keeps : (queue : ℕ) (sending : Sending) → lefts queue (port_next_begun queue sending) ≡ lefts queue sending
 next_keeps queue sending = next_by queue sending.begun sending.told sending.entry sending.todo sending.waiting
 
 -- the rest of it stays ready as the first of it is posted
@@ -161,7 +161,7 @@ rest_by : (P : Left → Type 0) (queue begun told : ℕ) (entry : Entry) (todo :
 rest_by P queue begun told entry [] waiting all = all
 rest_by P queue begun told entry (label ∷ todo) waiting all = λ k d within. all (suc k) d (omega (arith, within))
 
-let_go_by : (P : Left → Type 0) (queue : ℕ) (sending : Sending) (busy : Bool) → is_busy sending ≡ busy → All P (lefts queue sending)
+let_go_by : (P : Left → Type 0) (queue : ℕ) (sending : Sending) (busy : Bool) → is_port_busy sending ≡ busy → All P (lefts queue sending)
     → All P (lefts queue (if busy then sending else record sending { entry = GoesDown }))
 let_go_by P queue sending true is all = all
 let_go_by P queue sending false is all = none sending.todo sending.waiting is where
@@ -174,19 +174,19 @@ let_go_by P queue sending false is all = none sending.todo sending.waiting is wh
 -- What holds of all writes left to post holds of those that are left after the next one is posted.
 pub posted_ready : (P : Left → Type 0) (queue : ℕ) (sending : Sending)
     → All P (left_of_entry sending.entry sending.todo ++ writes_from queue sending.begun sending.waiting)
-    → (let next = next_begun queue sending in
+    → (let next = port_next_begun queue sending in
     let after = let_go (record next { todo = rest_of next.todo }) in
     All P (left_of_entry after.entry after.todo ++ writes_from queue after.begun after.waiting))
 posted_ready P queue sending all =
-    let next = next_begun queue sending in
+    let next = port_next_begun queue sending in
     let still = subst (All P) (sym (next_keeps queue sending)) all in
     let rest = rest_by P queue next.begun next.told next.entry next.todo next.waiting still in
-    let_go_by P queue (record next { todo = rest_of next.todo }) (is_busy (record next { todo = rest_of next.todo })) refl rest
+    let_go_by P queue (record next { todo = rest_of next.todo }) (is_port_busy (record next { todo = rest_of next.todo })) refl rest
 
 -- What holds of all writes left to post holds of the one that is posted next.
-pub first_ready : (P : Left → Type 0) (queue : ℕ) (sending : Sending) (label : Label) → Some label ≡ first_label (next_begun queue sending).todo
-    → All P (left_of_entry sending.entry sending.todo ++ writes_from queue sending.begun sending.waiting) → P (record { entry = (next_begun queue sending).entry; label = label })
-first_ready P queue sending label is all = at_todo (next_begun queue sending).begun (next_begun queue sending).entry (next_begun queue sending).todo (next_begun queue sending).waiting is (subst (All P) (sym (next_keeps queue sending)) all) where
+pub first_ready : (P : Left → Type 0) (queue : ℕ) (sending : Sending) (label : Label) → Some label ≡ first_label (port_next_begun queue sending).todo
+    → All P (left_of_entry sending.entry sending.todo ++ writes_from queue sending.begun sending.waiting) → P (record { entry = (port_next_begun queue sending).entry; label = label })
+first_ready P queue sending label is all = at_todo (port_next_begun queue sending).begun (port_next_begun queue sending).entry (port_next_begun queue sending).todo (port_next_begun queue sending).waiting is (subst (All P) (sym (next_keeps queue sending)) all) where
   at_todo : (begun : ℕ) (entry : Entry) (todo : List Label) (waiting : List Entry) → Some label ≡ first_label todo → All P (left_of_entry entry todo ++ writes_from queue begun waiting) → P (record { entry = entry; label = label })
   at_todo begun entry [] waiting e all = absurd (cc e)
   at_todo begun entry (first ∷ todo) waiting e all =
@@ -194,7 +194,7 @@ first_ready P queue sending label is all = at_todo (next_begun queue sending).be
       subst (λ (label : Label). P (record { entry = entry; label = label })) same (all 0 (record { entry = entry; label = label }) (omega arith))
 
 -- A port whose pages are promised has them promised after it posts its next write too.
-pub post_ready : (port : PortState) (own peer : List ℕ) → HasPages port own peer → HasPages (after_post port) own peer
+pub post_ready : (port : PortState) (own peer : List ℕ) → HasPortPages port own peer → HasPortPages (port_after_post port) own peer
 post_ready port own peer ready =
     record {
       writes = posted_ready (IsLeftReady port.plan port.side peer) port.queue port.sending ready.writes;

@@ -6,8 +6,8 @@ use Rattle.std.proofs.lemmas.List.{drop_more}
 use Rattle.lane_model.specs.Lane.{Entry, GoesDown}
 use Rattle.lane_model.specs.Tests.{is_empty_list}
 use Rattle.pair_model.specs.Labels.{labels_of}
-use Rattle.frame_ring.specs.Outgoing.{IsSender, Outgoing, all_writes_in, entries_under, entry_at, sender_seen, writes_in}
-use Rattle.frame_ring.specs.Port.{is_busy}
+use Rattle.frame_ring.specs.Outgoing.{IsSender, Outgoing, all_writes_in, entries_under, entry_at, sender_seen, port_writes_in}
+use Rattle.frame_ring.specs.Port.{is_port_busy}
 use Rattle.frame_ring.specs.Same.{IsSameSending}
 use Rattle.frame_ring.specs.declared.sending.Sender.TheInside.{Inside as SenderInside}
 use Rattle.frame_ring.proofs.Entries.{busy_is, length-todo}
@@ -59,7 +59,7 @@ record KeepsNothing (sender : SenderInside) : Type 0 where
   next : sender.next ≡ 4
 
 -- which is so where the sender isn't busy
-idle_keeps : (sender : SenderInside) → IsSender sender → is_busy (sender_seen sender).sending ≡ false → KeepsNothing sender
+idle_keeps : (sender : SenderInside) → IsSender sender → is_port_busy (sender_seen sender).sending ≡ false → KeepsNothing sender
 idle_keeps sender is idle =
     let told : not (sender.left == 0) ≡ false = busy_is (entries_of sender) sender.queue (sender.begun - 1) sender.piece sender.next sender.left (among sender is) is.next is.left ∙ idle in
     let left : sender.left ≡ 0 = grind (arith, nat_tests) in
@@ -77,7 +77,7 @@ down_alone sender keeps = ap (λ frame. drop sender.piece (entries_under sender.
 -- and where all that contracts see is the same, so are these
 progress_same : (one other : SenderInside) → IsSender one → IsSender other → one.largest ≡ other.largest → IsSameSending (sender_seen one).sending (sender_seen other).sending
     → HasSameProgress one other
-progress_same one other is are largest same = by_busy (is_busy (sender_seen one).sending) refl
+progress_same one other is are largest same = by_busy (is_port_busy (sender_seen one).sending) refl
   where
     first : Entry
     first = entry_at (entries_of one) one.piece
@@ -88,11 +88,11 @@ progress_same one other is are largest same = by_busy (is_busy (sender_seen one)
     own : drop other.piece (entries_of other) ≡ drop other.piece (entries_under one.largest other.frame)
     own = ap (λ largest. drop other.piece (entries_under largest other.frame)) (sym largest)
 
-    by_busy : (busy : Bool) → is_busy (sender_seen one).sending ≡ busy → HasSameProgress one other
+    by_busy : (busy : Bool) → is_port_busy (sender_seen one).sending ≡ busy → HasSameProgress one other
     by_busy true busy =
         let entry : first ≡ second = same.entry busy in
         let next : one.next ≡ other.next =
-        omega (arith, length-todo one.queue (one.begun - 1) one.next first, length-todo other.queue (other.begun - 1) other.next second, ap length same.todo, ap writes_in entry, is.next, are.next) in
+        omega (arith, length-todo one.queue (one.begun - 1) one.next first, length-todo other.queue (other.begun - 1) other.next second, ap length same.todo, ap port_writes_in entry, is.next, are.next) in
         record {
           begun = same.begun;
           told = same.told;
@@ -103,7 +103,7 @@ progress_same one other is are largest same = by_busy (is_busy (sender_seen one)
         }
     by_busy false idle =
         let mine = idle_keeps one is idle in
-        let both : is_busy (sender_seen one).sending ≡ is_busy (sender_seen other).sending =
+        let both : is_port_busy (sender_seen one).sending ≡ is_port_busy (sender_seen other).sending =
         ap (λ todo. not (is_empty_list todo) || not (is_empty_list (drop (one.piece + 1) (entries_of one)))) same.todo
         ∙ ap (λ waiting. not (is_empty_list (sender_seen other).sending.todo) || not (is_empty_list waiting)) same.waiting in
         let theirs = idle_keeps other are (sym both ∙ idle) in

@@ -12,10 +12,10 @@ use Rattle.lane_model.specs.declared.Phase.TheVariants.{Idle, Copying, Copied, C
 use Rattle.pair_model.specs.Link.{is_up}
 use Rattle.posted_queue.specs.Flight.{Flight, given_back, posted}
 use Rattle.bridge_pair.specs.Bridge.{Bridge, flight_of, with_flight}
-use Rattle.bridge_pair.specs.Calls.{after_post as after_posting}
+use Rattle.bridge_pair.specs.Calls.{bridge_after_post as after_posting}
 use Rattle.bridge_pair.specs.Flights.{Flying, flying_of}
 use Rattle.bridge_pair.specs.Writes.{PostedWrite, bell_write, memory_write}
-use Rattle.frame_ring.specs.Calls.{after_clear, after_copy, after_post, first_label, gathered_next, let_go, more_entries, more_parts, next_begun, part_copied, rest_of}
+use Rattle.frame_ring.specs.Calls.{port_after_clear, port_after_copy, port_after_post, first_label, gathered_next, let_go, more_entries, more_parts, port_next_begun, part_copied, rest_of}
 use Rattle.frame_ring.specs.Outgoing.{IsLabelOf}
 use Rattle.frame_ring.specs.Port.{PortState, Receiving, Sending, unused_of, with_receiving, writes_left}
 use Rattle.frame_ring.specs.PortView.{reaches, ring_posted, window_posted}
@@ -77,12 +77,12 @@ none_gone queue next is = at_todo next.begun next.told next.entry next.todo next
   at_todo begun told entry (first ∷ todo) waiting e = absurd (cc e)
 
 -- A post that finds a write to post leaves the port with one unused promise less.
-pub unused_posted : (port : PortState) (label : Label) → Some label ≡ first_label (next_begun port.queue port.sending).todo → unused_of (after_post port) + 1 ≡ unused_of port
-unused_posted port label is = omega (arith, one_gone port.queue (next_begun port.queue port.sending) label is, ap length (next_keeps port.queue port.sending))
+pub unused_posted : (port : PortState) (label : Label) → Some label ≡ first_label (port_next_begun port.queue port.sending).todo → unused_of (port_after_post port) + 1 ≡ unused_of port
+unused_posted port label is = omega (arith, one_gone port.queue (port_next_begun port.queue port.sending) label is, ap length (next_keeps port.queue port.sending))
 
 -- A post that finds nothing to post leaves the port with as many unused promises as before.
-pub unused_same : (port : PortState) → None ≡ first_label (next_begun port.queue port.sending).todo → unused_of (after_post port) ≡ unused_of port
-unused_same port is = omega (arith, none_gone port.queue (next_begun port.queue port.sending) is, ap length (next_keeps port.queue port.sending))
+pub unused_same : (port : PortState) → None ≡ first_label (port_next_begun port.queue port.sending).todo → unused_of (port_after_post port) ≡ unused_of port
+unused_same port is = omega (arith, none_gone port.queue (port_next_begun port.queue port.sending) is, ap length (next_keeps port.queue port.sending))
 
 -- A copy and a clear use no promise
 
@@ -107,14 +107,14 @@ unused_if port receiving true h = h refl
 unused_if port receiving false h = refl
 
 -- A copy leaves a port with as many unused promises as before.
-pub unused_copied : (port : PortState) (bridge : Bridge) → unused_of (after_copy port bridge) ≡ unused_of port
+pub unused_copied : (port : PortState) (bridge : Bridge) → unused_of (port_after_copy port bridge) ≡ unused_of port
 unused_copied port bridge =
     unused_if port (part_copied port.receiving (gathered_next port bridge)) (is_copying port.receiving.phase)
     (λ copying. let was = busy is_copying refl port.receiving.phase copying in
     unused_busy port (part_copied port.receiving (gathered_next port bridge)) was (still_busy _ _ _ (more_parts port.receiving) (more_entries port.receiving) was refl refl))
 
 -- A clear leaves a port with as many unused promises as before.
-pub unused_cleared : (port : PortState) → unused_of (after_clear port) ≡ unused_of port
+pub unused_cleared : (port : PortState) → unused_of (port_after_clear port) ≡ unused_of port
 unused_cleared port =
     unused_if port (record port.receiving { phase = Cleared }) (is_copied port.receiving.phase)
     (λ copied. unused_busy port (record port.receiving { phase = Cleared }) (busy is_copied refl port.receiving.phase copied) refl)

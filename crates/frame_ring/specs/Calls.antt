@@ -22,7 +22,7 @@ use Rattle.host_memory.specs.Memory.{Touches}
 use Rattle.posted_queue.specs.Flight.{given_back}
 use Rattle.plan_numbers.specs.Memories.{memory_size}
 use Rattle.bridge_pair.specs.Bridge.{Bridge, flight_of, with_flight}
-use Rattle.frame_ring.specs.Port.{PortState, Sending, Receiving, with_sending, with_receiving, is_busy, writes_left, unused_of}
+use Rattle.frame_ring.specs.Port.{PortState, Sending, Receiving, with_sending, with_receiving, is_port_busy, writes_left, unused_of}
 use Rattle.frame_ring.specs.PortView.{bytes_seen, ring_posted, index_posted, flags_cleared, TouchesLeft, TouchesWrite}
 use Rattle.frame_ring.specs.declared.RingLook.{RingLook}
 use Rattle.frame_ring.specs.declared.RingLook.TheVariants.{Ready, Empty, PeerDown, VerDiffers, Long, OutOfTurn}
@@ -48,8 +48,8 @@ abbrev pub free_answer : PortState → Bridge → ℕ
 free_answer port bridge = if nat_le (own_index_word port.plan port.side port.queue + 4) (memory_size port.plan port.side) then free_seen port bridge else 0
 
 -- whether a frame of this many bytes is refused whatever room there is
-abbrev pub refuses_answer : PortState → ℕ → Bool
-refuses_answer port len = nat_lt (sizes_seen port).most len || is_busy port.sending
+abbrev pub port_refuses_answer : PortState → ℕ → Bool
+port_refuses_answer port len = nat_lt (sizes_seen port).most len || is_port_busy port.sending
 
 -- where this many entries are wanted
 abbrev pub unless_full : PortState → Bridge → ℕ → Begun → Begun
@@ -61,7 +61,7 @@ room_answer port bridge needed = unless_full port bridge needed (BegunOk port.se
 
 -- the port's tests of a beginning that takes this many entries
 abbrev pub entry_tests : PortState → Bridge → ℕ → Test → Begun → Begun
-entry_tests port bridge needed OfBusy later = if is_busy port.sending then Busy else later
+entry_tests port bridge needed OfBusy later = if is_port_busy port.sending then Busy else later
 entry_tests port bridge needed OfRoom later = unless_full port bridge needed later
 entry_tests port bridge needed test later = later
 
@@ -70,15 +70,15 @@ abbrev pub frame_tests : PortState → Bridge → ℕ → Test → Begun → Beg
 frame_tests port bridge len OfLength later = if nat_lt (sizes_seen port).most len then TooLong len (sizes_seen port).most else later
 frame_tests port bridge len test later = entry_tests port bridge (pieces_in (sizes_seen port).largest len) test later
 
-abbrev pub begin_answer : PortState → Bridge → ℕ → Begun
-begin_answer port bridge len = in_begin_order (frame_tests port bridge len) (BegunOk port.sending.told)
+abbrev pub port_begin_answer : PortState → Bridge → ℕ → Begun
+port_begin_answer port bridge len = in_begin_order (frame_tests port bridge len) (BegunOk port.sending.told)
 
-abbrev pub down_answer : PortState → Bridge → Begun
-down_answer port bridge = in_begin_order (entry_tests port bridge 1) (BegunOk port.sending.told)
+abbrev pub port_down_answer : PortState → Bridge → Begun
+port_down_answer port bridge = in_begin_order (entry_tests port bridge 1) (BegunOk port.sending.told)
 
 -- a frame of this many bytes is begun, and not refused
-abbrev pub BeginsFrame : PortState → Bridge → ℕ → Type 0
-BeginsFrame port bridge len = (number : ℕ) × (begin_answer port bridge len ≡ BegunOk number)
+abbrev pub PortBeginsFrame : PortState → Bridge → ℕ → Type 0
+PortBeginsFrame port bridge len = (number : ℕ) × (port_begin_answer port bridge len ≡ BegunOk number)
 
 -- the first of these entries is begun: its writes are left to post, and the others wait
 abbrev pub entries_begun : ℕ → Sending → List Entry → Sending
@@ -87,8 +87,8 @@ entries_begun queue sending (first ∷ others) =
     record { begun = sending.begun + 1; told = sending.told; entry = first; todo = labels_of queue sending.begun first; waiting = others }
 
 -- a frame is begun as its pieces, and a link-down entry as itself
-abbrev pub frame_begun : PortState → List ℕ → PortState
-frame_begun port frame =
+abbrev pub port_frame_begun : PortState → List ℕ → PortState
+port_frame_begun port frame =
     with_sending port (record (entries_begun port.queue port.sending (pieces_of (sizes_seen port).largest frame)) { told = port.sending.told + 1 })
 
 abbrev pub down_begun : PortState → PortState
@@ -99,15 +99,15 @@ abbrev pub where_begun : PortState → PortState → Begun → PortState
 where_begun old new (BegunOk number) = new
 where_begun old new answer = old
 
-abbrev pub after_begin : PortState → Bridge → List ℕ → PortState
-after_begin port bridge frame = where_begun port (frame_begun port frame) (begin_answer port bridge (length frame))
+abbrev pub port_after_begin : PortState → Bridge → List ℕ → PortState
+port_after_begin port bridge frame = where_begun port (port_frame_begun port frame) (port_begin_answer port bridge (length frame))
 
 abbrev pub after_down : PortState → Bridge → PortState
-after_down port bridge = where_begun port (down_begun port) (down_answer port bridge)
+after_down port bridge = where_begun port (down_begun port) (port_down_answer port bridge)
 
 -- where all writes of an entry were posted, the next of those that wait is begun
-abbrev pub next_begun : ℕ → Sending → Sending
-next_begun queue sending = if is_empty_list sending.todo then entries_begun queue sending sending.waiting else sending
+abbrev pub port_next_begun : ℕ → Sending → Sending
+port_next_begun queue sending = if is_empty_list sending.todo then entries_begun queue sending sending.waiting else sending
 
 -- the first of the labels left to post, and the rest
 abbrev pub first_label : List Label → Option Label
@@ -120,14 +120,14 @@ rest_of (label ∷ labels) = labels
 
 -- once all is posted the entry is let go
 abbrev pub let_go : Sending → Sending
-let_go sending = if is_busy sending then sending else record sending { entry = GoesDown }
+let_go sending = if is_port_busy sending then sending else record sending { entry = GoesDown }
 
-abbrev pub post_answer : PortState → Option Label
-post_answer port = first_label (next_begun port.queue port.sending).todo
+abbrev pub port_post_answer : PortState → Option Label
+port_post_answer port = first_label (port_next_begun port.queue port.sending).todo
 
-abbrev pub after_post : PortState → PortState
-after_post port =
-    let next = next_begun port.queue port.sending in
+abbrev pub port_after_post : PortState → PortState
+port_after_post port =
+    let next = port_next_begun port.queue port.sending in
     with_sending port (let_go (record next { todo = rest_of next.todo }))
 
 -- Receiving
@@ -146,15 +146,15 @@ abbrev pub port_look_tests : PortState → Test → RingLook → RingLook
 port_look_tests port OfPhase later = if is_idle port.receiving.phase then later else OutOfTurn
 port_look_tests port test later = later
 
-abbrev pub look_answer : PortState → Bridge → RingLook
-look_answer port bridge = in_look_order (port_look_tests port) (look_found port.receiving (found_seen port bridge))
+abbrev pub port_look_answer : PortState → Bridge → RingLook
+port_look_answer port bridge = in_look_order (port_look_tests port) (look_found port.receiving (found_seen port bridge))
 
 abbrev pub entry_found : Receiving → Found → Receiving
 entry_found receiving (AnEntry len left) = record receiving { phase = Copying; part = 0; len = len; left = left }
 entry_found receiving found = receiving
 
-abbrev pub after_look : PortState → Bridge → PortState
-after_look port bridge = if is_idle port.receiving.phase then with_receiving port (entry_found port.receiving (found_seen port bridge)) else port
+abbrev pub port_after_look : PortState → Bridge → PortState
+port_after_look port bridge = if is_idle port.receiving.phase then with_receiving port (entry_found port.receiving (found_seen port bridge)) else port
 
 -- the bytes of the frame under way with the next part of the entry at hand, as it is in memory
 abbrev pub gathered_next : PortState → Bridge → List ℕ
@@ -175,8 +175,8 @@ part_answer receiving gathered =
     else if more_entries receiving then Part receiving.got receiving.part
     else Whole receiving.done gathered
 
-abbrev pub copy_answer : PortState → Bridge → LaneCopy
-copy_answer port bridge = if is_copying port.receiving.phase then part_answer port.receiving (gathered_next port bridge) else NotCopying
+abbrev pub port_copy_answer : PortState → Bridge → LaneCopy
+port_copy_answer port bridge = if is_copying port.receiving.phase then part_answer port.receiving (gathered_next port bridge) else NotCopying
 
 -- the frame that a copy delivers, if it delivers one
 abbrev pub frame_of_copy : LaneCopy → Option (List ℕ)
@@ -184,8 +184,8 @@ frame_of_copy (Whole number frame) = Some frame
 frame_of_copy copy = None
 
 -- the frame that the next copy is due to deliver
-abbrev pub frame_due : PortState → Bridge → Option (List ℕ)
-frame_due port bridge = frame_of_copy (copy_answer port bridge)
+abbrev pub port_frame_due : PortState → Bridge → Option (List ℕ)
+port_frame_due port bridge = frame_of_copy (port_copy_answer port bridge)
 
 abbrev pub part_copied : Receiving → List ℕ → Receiving
 part_copied receiving gathered =
@@ -193,25 +193,25 @@ part_copied receiving gathered =
     else if more_entries receiving then record receiving { got = receiving.got + 1; phase = Copied; gathered = gathered }
     else record receiving { got = receiving.got + 1; phase = Copied; gathered = []; done = receiving.done + 1 }
 
-abbrev pub after_copy : PortState → Bridge → PortState
-after_copy port bridge =
+abbrev pub port_after_copy : PortState → Bridge → PortState
+port_after_copy port bridge =
     if is_copying port.receiving.phase then with_receiving port (part_copied port.receiving (gathered_next port bridge)) else port
 
 -- the entry that was taken last
 abbrev pub last_got : Receiving → ℕ
 last_got receiving = receiving.got - 1
 
-abbrev pub clear_answer : PortState → Option ℕ
-clear_answer port = if is_copied port.receiving.phase then Some (last_got port.receiving) else None
+abbrev pub port_clear_answer : PortState → Option ℕ
+port_clear_answer port = if is_copied port.receiving.phase then Some (last_got port.receiving) else None
 
-abbrev pub after_clear : PortState → PortState
-after_clear port = if is_copied port.receiving.phase then with_receiving port (record port.receiving { phase = Cleared }) else port
+abbrev pub port_after_clear : PortState → PortState
+port_after_clear port = if is_copied port.receiving.phase then with_receiving port (record port.receiving { phase = Cleared }) else port
 
-abbrev pub ack_answer : PortState → Option ℕ
-ack_answer port = if is_cleared port.receiving.phase then Some (last_got port.receiving) else None
+abbrev pub port_ack_answer : PortState → Option ℕ
+port_ack_answer port = if is_cleared port.receiving.phase then Some (last_got port.receiving) else None
 
-abbrev pub after_ack : PortState → PortState
-after_ack port = if is_cleared port.receiving.phase then with_receiving port (record port.receiving { phase = Idle }) else port
+abbrev pub port_after_ack : PortState → PortState
+port_after_ack port = if is_cleared port.receiving.phase then with_receiving port (record port.receiving { phase = Idle }) else port
 
 -- What the calls do to the pair
 
@@ -222,14 +222,14 @@ first_posted bridge side entry (label ∷ labels) = ring_posted bridge side entr
 
 abbrev pub posted_by : PortState → Bridge → Bridge
 posted_by port bridge =
-    let next = next_begun port.queue port.sending in
+    let next = port_next_begun port.queue port.sending in
     first_posted bridge port.side next.entry next.todo
 
 abbrev pub cleared_by : PortState → Bridge → Bridge
 cleared_by port bridge = if is_copied port.receiving.phase then flags_cleared bridge port.side port.queue (last_got port.receiving) else bridge
 
-abbrev pub acked_by : PortState → Bridge → Bridge
-acked_by port bridge = if is_cleared port.receiving.phase then index_posted bridge port.side port.queue (last_got port.receiving) else bridge
+abbrev pub port_acked_by : PortState → Bridge → Bridge
+port_acked_by port bridge = if is_cleared port.receiving.phase then index_posted bridge port.side port.queue (last_got port.receiving) else bridge
 
 -- all promises that weren't used are given back
 abbrev pub reset_by : PortState → Bridge → Bridge
@@ -239,17 +239,17 @@ reset_by port bridge = with_flight bridge port.side (given_back (flight_of bridg
 
 abbrev pub TouchedByBegin : PortState → Bridge → List ℕ → ℕ → Type 0
 TouchedByBegin port bridge frame page =
-    (begin_answer port bridge (length frame) ≡ BegunOk port.sending.told) × TouchesLeft port.plan port.side (writes_left (frame_begun port frame)) page
+    (port_begin_answer port bridge (length frame) ≡ BegunOk port.sending.told) × TouchesLeft port.plan port.side (writes_left (port_frame_begun port frame)) page
 
 abbrev pub TouchedByDown : PortState → Bridge → ℕ → Type 0
-TouchedByDown port bridge page = (down_answer port bridge ≡ BegunOk port.sending.told) × TouchesLeft port.plan port.side (writes_left (down_begun port)) page
+TouchedByDown port bridge page = (port_down_answer port bridge ≡ BegunOk port.sending.told) × TouchesLeft port.plan port.side (writes_left (down_begun port)) page
 
 -- a look that finds an entry leaves its index write and its flags to be written
-abbrev pub FindsEntry : PortState → Bridge → Type 0
-FindsEntry port bridge = (len : ℕ) × (look_answer port bridge ≡ Ready port.receiving.got len)
+abbrev pub PortFindsEntry : PortState → Bridge → Type 0
+PortFindsEntry port bridge = (len : ℕ) × (port_look_answer port bridge ≡ Ready port.receiving.got len)
 
 abbrev pub TouchedByLook : PortState → Bridge → ℕ → Type 0
-TouchedByLook port bridge page = FindsEntry port bridge × TouchesWrite port.plan port.side (index_write port.plan port.side port.queue port.receiving.got) page
+TouchedByLook port bridge page = PortFindsEntry port bridge × TouchesWrite port.plan port.side (index_write port.plan port.side port.queue port.receiving.got) page
 
 abbrev pub TouchedByFlags : PortState → Bridge → ℕ → Type 0
-TouchedByFlags port bridge page = FindsEntry port bridge × Touches (own_header port.plan port.side port.queue port.receiving.got + flags_offset port.plan) 4 page
+TouchedByFlags port bridge page = PortFindsEntry port bridge × Touches (own_header port.plan port.side port.queue port.receiving.got + flags_offset port.plan) 4 page

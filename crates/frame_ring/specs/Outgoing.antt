@@ -18,12 +18,12 @@ abbrev pub entry_at : List Entry → ℕ → Entry
 entry_at entries k = slice_index_or entries k GoesDown
 
 -- how many writes an entry takes: its chunks, its length, its version, its flags and the doorbell
-abbrev pub writes_in : Entry → ℕ
-writes_in entry = chunks_in (length (bytes_of entry)) + 4
+abbrev pub port_writes_in : Entry → ℕ
+port_writes_in entry = chunks_in (length (bytes_of entry)) + 4
 
 abbrev pub all_writes_in : List Entry → ℕ
 all_writes_in [] = 0
-all_writes_in (entry ∷ entries) = writes_in entry + all_writes_in entries
+all_writes_in (entry ∷ entries) = port_writes_in entry + all_writes_in entries
 
 -- a sender with the number of its queue and the most bytes of an entry's payload
 pub record Outgoing : Type 0 where
@@ -75,7 +75,7 @@ pub record IsSender (sender : SenderInside) : Type 0 where
   pub pieces : sender.pieces ≡ length (entries_under sender.largest sender.frame)
   pub piece : sender.piece < sender.pieces
   pub few_pieces : sender.pieces ≤ most_frame_bytes
-  pub next : sender.next ≤ writes_in (entry_at (entries_under sender.largest sender.frame) sender.piece)
+  pub next : sender.next ≤ port_writes_in (entry_at (entries_under sender.largest sender.frame) sender.piece)
   pub left : sender.left + sender.next ≡ all_writes_in (drop sender.piece (entries_under sender.largest sender.frame))
   pub begun : sender.begun + sender.pieces ≤ most_numbers + sender.piece + 1
   pub told : sender.told ≤ most_numbers

@@ -59,8 +59,8 @@ abbrev pub with_receiving : PortState → Receiving → PortState
 with_receiving port receiving = record port { receiving = receiving }
 
 -- a frame has writes or entries left to post
-abbrev pub is_busy : Sending → Bool
-is_busy sending = not (is_empty_list sending.todo) || not (is_empty_list sending.waiting)
+abbrev pub is_port_busy : Sending → Bool
+is_port_busy sending = not (is_empty_list sending.todo) || not (is_empty_list sending.waiting)
 
 -- What is left to post: the label of each write, with the entry that it is of.
 pub record Left : Type 0 where

@@ -8,7 +8,7 @@ use Rattle.step_kinds.specs.declared.lanes.LaneCopy.{LaneCopy}
 use Rattle.step_kinds.specs.declared.steps.Label.{Label}
 use Rattle.bridge_pair.specs.Bridge.{Bridge, flight_of, pages_of, with_pages}
 use Rattle.bridge_pair.specs.Pages.{PagesGrow}
-use Rattle.frame_ring.specs.Calls.{FindsEntry, TouchedByBegin, TouchedByDown, TouchedByFlags, TouchedByLook, ack_answer, acked_by, after_ack, after_begin, after_clear, after_copy, after_down, after_look, after_post, begin_answer, clear_answer, cleared_by, copy_answer, down_answer, frame_due, look_answer, post_answer, posted_by, reset_by}
+use Rattle.frame_ring.specs.Calls.{PortFindsEntry, TouchedByBegin, TouchedByDown, TouchedByFlags, TouchedByLook, port_ack_answer, port_acked_by, port_after_ack, port_after_begin, port_after_clear, port_after_copy, after_down, port_after_look, port_after_post, port_begin_answer, port_clear_answer, cleared_by, port_copy_answer, port_down_answer, port_frame_due, port_look_answer, port_post_answer, posted_by, reset_by}
 use Rattle.frame_ring.specs.Port.{PortState, fresh_port, unused_of}
 use Rattle.frame_ring.specs.PortView.{HasPagesIn, with_room}
 use Rattle.frame_ring.specs.declared.RingLook.{RingLook}
@@ -53,13 +53,13 @@ KeepsSpare old new early late = (flight_of late old.side).spare + unused_of old 
 
 pub record HasBegun {E : Type 0} (old new : PortState) (early late : Bridge) (frame : List ℕ) (result : Result Begun E) : Type 0 where
   -- the frame is begun, or refused for the first reason that holds
-  pub answer : IfOk result (λ answer. answer ≡ begin_answer old early (length frame))
+  pub answer : IfOk result (λ answer. answer ≡ port_begin_answer old early (length frame))
   -- where it is begun its writes are left to post; a refusal changes nothing
-  pub after : OnOk result (new ≡ after_begin old early frame)
+  pub after : OnOk result (new ≡ port_after_begin old early frame)
   -- out of memory leaves the port as it was
   pub err : OnErr result (new ≡ old)
   -- and comes only if the frame was to be begun
-  pub wants : OnErr result (begin_answer old early (length frame) ≡ BegunOk old.sending.told)
+  pub wants : OnErr result (port_begin_answer old early (length frame) ≡ BegunOk old.sending.told)
   -- the pages and the room of its writes are promised
   pub promises : HasPromised (TouchedByBegin old early frame) old new early late result
   pub open promises use *
@@ -67,9 +67,9 @@ pub record HasBegun {E : Type 0} (old new : PortState) (early late : Bridge) (fr
 -- the same of a frame that isn't refused
 pub record HasBegunUnrefused {E : Type 0} (old new : PortState) (early late : Bridge) (frame : List ℕ) (result : Result ℕ E) : Type 0 where
   -- the result is the number under which it is begun
-  pub number : IfOk result (λ number. begin_answer old early (length frame) ≡ BegunOk number)
+  pub number : IfOk result (λ number. port_begin_answer old early (length frame) ≡ BegunOk number)
   -- its writes are left to post
-  pub after : OnOk result (new ≡ after_begin old early frame)
+  pub after : OnOk result (new ≡ port_after_begin old early frame)
   -- out of memory leaves the port as it was
   pub err : OnErr result (new ≡ old)
   -- the pages and the room of its writes are promised
@@ -78,22 +78,22 @@ pub record HasBegunUnrefused {E : Type 0} (old new : PortState) (early late : Br
 
 pub record HasGoneDown {E : Type 0} (old new : PortState) (early late : Bridge) (result : Result Begun E) : Type 0 where
   -- a link-down entry is begun, or refused for the first reason that holds
-  pub answer : IfOk result (λ answer. answer ≡ down_answer old early)
+  pub answer : IfOk result (λ answer. answer ≡ port_down_answer old early)
   -- where it is begun its writes are left to post; a refusal changes nothing
   pub after : OnOk result (new ≡ after_down old early)
   -- out of memory leaves the port as it was
   pub err : OnErr result (new ≡ old)
   -- and comes only if the entry was to be begun
-  pub wants : OnErr result (down_answer old early ≡ BegunOk old.sending.told)
+  pub wants : OnErr result (port_down_answer old early ≡ BegunOk old.sending.told)
   -- the pages and the room of its writes are promised
   pub promises : HasPromised (TouchedByDown old early) old new early late result
   pub open promises use *
 
 pub record HasPosted (old new : PortState) (early late : Bridge) (result : Option Label) : Type 0 where
   -- the answer is the label of the first write that is left to post, if one is
-  pub answer : result ≡ post_answer old
+  pub answer : result ≡ port_post_answer old
   -- it is left no longer
-  pub after : new ≡ after_post old
+  pub after : new ≡ port_after_post old
   -- that write alone goes out on the pair, or is lost
   pub pair : late ≡ posted_by old early
   -- its room was promised
@@ -105,13 +105,13 @@ pub record HasPosted (old new : PortState) (early late : Bridge) (result : Optio
 
 pub record HasLooked {E : Type 0} (old new : PortState) (early late : Bridge) (result : Result RingLook E) : Type 0 where
   -- the answer is what stands in the next slot, by its header in memory
-  pub answer : IfOk result (λ answer. answer ≡ look_answer old early)
+  pub answer : IfOk result (λ answer. answer ≡ port_look_answer old early)
   -- an entry that is found is at hand to be copied; all other answers change nothing
-  pub after : OnOk result (new ≡ after_look old early)
+  pub after : OnOk result (new ≡ port_after_look old early)
   -- out of memory leaves the port as it was
   pub err : OnErr result (new ≡ old)
   -- and comes only if an entry is found
-  pub wants : OnErr result (FindsEntry old early)
+  pub wants : OnErr result (PortFindsEntry old early)
   -- the pages and the room to take the entry and to give it back are promised
   pub promises : HasPromisedBoth (TouchedByLook old early) (TouchedByFlags old early) old new early late result
   pub open promises use *
@@ -119,7 +119,7 @@ pub record HasLooked {E : Type 0} (old new : PortState) (early late : Bridge) (r
 -- the same of an entry that is there
 pub record HasFound {X E : Type 0} (old new : PortState) (early late : Bridge) (result : Result X E) : Type 0 where
   -- the entry is at hand to be copied
-  pub after : OnOk result (new ≡ after_look old early)
+  pub after : OnOk result (new ≡ port_after_look old early)
   -- out of memory leaves the port as it was
   pub err : OnErr result (new ≡ old)
   -- the pages and the room to take the entry and to give it back are promised
@@ -128,24 +128,24 @@ pub record HasFound {X E : Type 0} (old new : PortState) (early late : Bridge) (
 
 pub record HasCopied (old new : PortState) (bridge : Bridge) (result : LaneCopy) : Type 0 where
   -- the answer is the next part of the entry at hand, or the whole frame with its last part
-  pub answer : result ≡ copy_answer old bridge
+  pub answer : result ≡ port_copy_answer old bridge
   -- the part is gathered, as it is in memory
-  pub after : new ≡ after_copy old bridge
+  pub after : new ≡ port_after_copy old bridge
   -- all pages that the port needs are promised, if they were before
   pub ready : HasPagesIn old bridge → HasPagesIn new bridge
 
 -- what the next copy is to deliver
 pub record IsDue {E : Type 0} (port : PortState) (bridge : Bridge) (result : Result (Option (List ℕ)) E) : Type 0 where
   -- the frame, if that copy delivers one
-  pub value : IfOk result (λ due. due ≡ frame_due port bridge)
+  pub value : IfOk result (λ due. due ≡ port_frame_due port bridge)
   -- out of memory comes only if it does
-  pub wants : OnErr result (IsSome (frame_due port bridge))
+  pub wants : OnErr result (IsSome (port_frame_due port bridge))
 
 pub record HasCleared (old new : PortState) (early late : Bridge) (result : Option ℕ) : Type 0 where
   -- the answer is the number of the entry that was copied, if one was
-  pub answer : result ≡ clear_answer old
+  pub answer : result ≡ port_clear_answer old
   -- it is cleared
-  pub after : new ≡ after_clear old
+  pub after : new ≡ port_after_clear old
   -- its flags alone change in the side's memory
   pub pair : late ≡ cleared_by old early
   -- the pages of what is left stay promised
@@ -153,11 +153,11 @@ pub record HasCleared (old new : PortState) (early late : Bridge) (result : Opti
 
 pub record HasAcknowledged (old new : PortState) (early late : Bridge) (result : Option ℕ) : Type 0 where
   -- the answer is the number of the entry that was cleared, if one was
-  pub answer : result ≡ ack_answer old
+  pub answer : result ≡ port_ack_answer old
   -- the port is ready to look for the next one
-  pub after : new ≡ after_ack old
+  pub after : new ≡ port_after_ack old
   -- the index write that names the entry's slot goes out on the pair, or is lost
-  pub pair : late ≡ acked_by old early
+  pub pair : late ≡ port_acked_by old early
   -- its room was promised
   pub spare : KeepsSpare old new early late
   -- the pages of what is left stay promised

@@ -15,14 +15,14 @@ use Rattle.pair_model.specs.FreshRings.{zeroed_flags}
 use Rattle.pair_model.specs.RingWrites.{WindowWrite, entry_write, index_write, store_of_write}
 use Rattle.host_memory.specs.Memory.{ArePromised, Touches, bytes_at, written}
 use Rattle.posted_queue.specs.Flight.{given_back, promised}
-use Rattle.bridge_pair.specs.Bridge.{Bridge, bytes_of, pages_of, flight_of, with_bytes, with_flight}
-use Rattle.bridge_pair.specs.Calls.{after_post as after_posting}
+use Rattle.bridge_pair.specs.Bridge.{Bridge, bridge_bytes_of, pages_of, flight_of, with_bytes, with_flight}
+use Rattle.bridge_pair.specs.Calls.{bridge_after_post as after_posting}
 use Rattle.bridge_pair.specs.Writes.{memory_write, bell_write}
 use Rattle.frame_ring.specs.Port.{PortState, Left, writes_left, unused_of}
 
 -- the bytes of the two memories
 abbrev pub bytes_seen : Bridge → Bytes
-bytes_seen bridge = λ side at len. bytes_at at len (bytes_of bridge side)
+bytes_seen bridge = λ side at len. bytes_at at len (bridge_bytes_of bridge side)
 
 -- What a pair has to be for its rings: sides that a handshake could bring up, as far as queues, windows and sizes go. A
 -- raw pair's sides may differ in queues and windows, and their sizes fit by the pair's plan.
@@ -61,7 +61,7 @@ index_posted bridge side queue n = window_posted bridge side (Index queue n) (in
 abbrev pub flags_cleared : Bridge → Side → ℕ → ℕ → Bridge
 flags_cleared bridge side queue n =
     let store = zeroed_flags bridge.plan side queue n in
-    with_bytes bridge side (written store.at store.bytes (bytes_of bridge side))
+    with_bytes bridge side (written store.at store.bytes (bridge_bytes_of bridge side))
 
 -- Promises
 
@@ -70,12 +70,12 @@ abbrev pub IsReadyToLand : PairPlan → Side → List ℕ → WindowWrite → Ty
 IsReadyToLand plan side pages write = reaches plan side write.window ≡ true → ArePromised (store_of_write plan side write).at (length write.bytes) pages
 
 -- a write that goes through no window needs no page
-abbrev pub IsReady : PairPlan → Side → List ℕ → Option WindowWrite → Type 0
-IsReady plan side pages None = Unit {0}
-IsReady plan side pages (Some write) = IsReadyToLand plan side pages write
+abbrev pub IsPortReady : PairPlan → Side → List ℕ → Option WindowWrite → Type 0
+IsPortReady plan side pages None = Unit {0}
+IsPortReady plan side pages (Some write) = IsReadyToLand plan side pages write
 
 abbrev pub IsLeftReady : PairPlan → Side → List ℕ → Left → Type 0
-IsLeftReady plan side pages left = IsReady plan side pages (entry_write plan side left.entry left.label)
+IsLeftReady plan side pages left = IsPortReady plan side pages (entry_write plan side left.entry left.label)
 
 -- the entry at hand: the one to be taken next, or the one that was taken last
 abbrev pub entry_at_hand : PortState → ℕ
@@ -83,13 +83,13 @@ entry_at_hand port = if is_copying port.receiving.phase then port.receiving.got 
 
 -- The pages that a port's calls were promised are there, in its own memory and in the peer's. They are those of all
 -- writes left to post, and of the flags and the index write of the entry at hand.
-pub record HasPages (port : PortState) (own peer : List ℕ) : Type 0 where
+pub record HasPortPages (port : PortState) (own peer : List ℕ) : Type 0 where
   pub writes : All (IsLeftReady port.plan port.side peer) (writes_left port)
   pub flags : is_idle port.receiving.phase ≡ false → ArePromised (own_header port.plan port.side port.queue (entry_at_hand port) + flags_offset port.plan) 4 own
   pub index_word : is_idle port.receiving.phase ≡ false → IsReadyToLand port.plan port.side peer (index_write port.plan port.side port.queue (entry_at_hand port))
 
 abbrev pub HasPagesIn : PortState → Bridge → Type 0
-HasPagesIn port bridge = HasPages port (pages_of bridge port.side) (pages_of bridge (other_side port.side))
+HasPagesIn port bridge = HasPortPages port (pages_of bridge port.side) (pages_of bridge (other_side port.side))
 
 -- the page has a byte of what a write stores at the peer, through a window that the peer has
 abbrev pub TouchesWrite : PairPlan → Side → WindowWrite → ℕ → Type 0

@@ -31,10 +31,10 @@ pub record ArePlaced (rings : RingsInside) : Type 0 where
   pub into_window : rings.into_window ≡ window_of (layout_to rings.plan rings.side rings.queue)
 
 -- what is so of the rings of every port
-pub record IsQueueOf (rings : QueueOf) : Type 0 where
+pub record IsPortQueue (rings : QueueOf) : Type 0 where
   pub declared : IsPair rings.plan
   pub among : rings.queue < (side_plan rings.plan rings.side).queues
 
 -- The words of a header as they were read.
-abbrev pub header_of : HeaderWords → Header
-header_of words = record { left = words.left; ver = words.ver; len = words.len; flags = words.flags }
+abbrev pub port_header_of : HeaderWords → Header
+port_header_of words = record { left = words.left; ver = words.ver; len = words.len; flags = words.flags }

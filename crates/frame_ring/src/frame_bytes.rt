@@ -1,7 +1,7 @@
 //! The bytes of the frame that is received.
 
 ghost use Rattle.std.specs.Prelude.{◌≡◌, ◌↔◌, ◌+◌, ◌-◌, ◌<◌, ◌≤◌, ◌++◌, IfOk, IsTrue, OnErr, OnOk, length};
-ghost use Rattle.bridge_pair.specs.Bridge.{bytes_of};
+ghost use Rattle.bridge_pair.specs.Bridge.{bridge_bytes_of};
 ghost use Rattle.frame_ring.specs.Gathering.{nothing_gathered};
 ghost use Rattle.host_memory.specs.Memory.{bytes_at};
 ghost use Rattle.step_kinds.specs.Limits.{most_frame_bytes};
@@ -74,8 +74,8 @@ impl Gathered {
     /// Reads further bytes out of a side's memory.
     pub fn read(&mut self, pair: &Pair, side: Side, at: u64, len: usize)
         requires room { len ≤ self.old.room }
-        requires within { at + len ≤ length (bytes_of pair.now side) }
-        ensures { self.new ≡ record { bytes = self.old.bytes ++ bytes_at at len (bytes_of pair.now side); room = self.old.room - len } }
+        requires within { at + len ≤ length (bridge_bytes_of pair.now side) }
+        ensures { self.new ≡ record { bytes = self.old.bytes ++ bytes_at at len (bridge_bytes_of pair.now side); room = self.old.room - len } }
     {
         let end = self.filled + len;
         pair.local_read(side, at, &mut self.bytes[self.filled..end]);

@@ -46,8 +46,8 @@ pub struct Port {
 }
 
 impl Port {
-    ghost use Rattle.frame_ring.specs.Calls.{BeginsFrame, down_begun, frame_begun, room_answer, begin_answer, down_answer, free_answer, look_answer, refuses_answer};
-    ghost use Rattle.frame_ring.specs.Port.{fresh_port, is_busy, unused_of, with_receiving, writes_left};
+    ghost use Rattle.frame_ring.specs.Calls.{PortBeginsFrame, down_begun, port_frame_begun, room_answer, port_begin_answer, port_down_answer, free_answer, port_look_answer, port_refuses_answer};
+    ghost use Rattle.frame_ring.specs.Port.{fresh_port, is_port_busy, unused_of, with_receiving, writes_left};
     ghost use Rattle.frame_ring.specs.PortCalls.{HasAcknowledged, HasBegun, HasBegunUnrefused, HasCleared, HasCopied, HasFound, HasGoneDown, HasLooked, HasPosted, HasPromised, HasPromisedBoth, HasReset, IsDue};
     ghost use Rattle.frame_ring.specs.PortView.{FitsRings, HasPagesIn, HasRoomIn, TouchesLeft, TouchesWrite};
     ghost use Rattle.frame_ring.specs.Same.{IsSamePort};
@@ -109,7 +109,7 @@ impl Port {
         requires some { 0 < length frame }
         requires plan { pair.old.plan ≡ self.old.plan }
         requires fits { FitsRings self.old.plan }
-        requires begins { BeginsFrame self.old pair.old (length frame) }
+        requires begins { PortBeginsFrame self.old pair.old (length frame) }
         ensures { HasBegunUnrefused self.old self.new pair.old pair.new frame result }
     {
         let number = self.sender.told();
@@ -198,7 +198,7 @@ impl Port {
     pub fn find(&mut self, pair: &mut Pair, len: u32) -> Result<(), AllocError>
         requires plan { pair.old.plan ≡ self.old.plan }
         requires fits { FitsRings self.old.plan }
-        requires found { look_answer self.old pair.old ≡ Ready self.old.receiving.got len }
+        requires found { port_look_answer self.old pair.old ≡ Ready self.old.receiving.got len }
         ensures { HasFound self.old self.new pair.old pair.new result }
     {
         let left = followers(&self.rings, pair, self.receiver.got());
@@ -325,7 +325,7 @@ impl Port {
         requires plan { pair.now.plan ≡ self.now.plan }
         requires fits { FitsRings self.now.plan }
         requires few { len ≤ most_frame_bytes }
-        ensures { result ≡ begin_answer self.now pair.now len }
+        ensures { result ≡ port_begin_answer self.now pair.now len }
     {
         let max = self.rings.most_sent();
         if max < len {
@@ -342,7 +342,7 @@ impl Port {
     pub fn look_answer(&self, pair: &Pair) -> RingLook
         requires plan { pair.now.plan ≡ self.now.plan }
         requires fits { FitsRings self.now.plan }
-        ensures { result ≡ look_answer self.now pair.now }
+        ensures { result ≡ port_look_answer self.now pair.now }
     {
         let Phase::Idle = self.receiver.phase() else {
             return RingLook::OutOfTurn;
@@ -356,7 +356,7 @@ impl Port {
     pub fn refuses(&self, len: u32) -> bool
         requires some { 0 < len }
         requires most { len ≤ most_frame_bytes }
-        ensures { result ≡ refuses_answer self.now len }
+        ensures { result ≡ port_refuses_answer self.now len }
     {
         self.rings.most_sent() < len || self.sender.is_busy()
     }
@@ -403,7 +403,7 @@ impl Port {
     fn down_answer(&self, pair: &Pair) -> Begun
         requires plan { pair.now.plan ≡ self.now.plan }
         requires fit { SizesFit self.now.plan }
-        ensures { result ≡ down_answer self.now pair.now }
+        ensures { result ≡ port_down_answer self.now pair.now }
     {
         if self.sender.is_busy() {
             return Begun::Busy;
@@ -432,10 +432,10 @@ impl Port {
     fn begin_frame(&mut self, pair: &mut Pair, frame: Frame) -> Result<(), AllocError>
         requires plan { pair.old.plan ≡ self.old.plan }
         requires fit { SizesFit self.old.plan }
-        requires idle { is_busy self.old.sending ≡ false }
-        ensures after { OnOk result (self.new ≡ frame_begun self.old frame) }
+        requires idle { is_port_busy self.old.sending ≡ false }
+        ensures after { OnOk result (self.new ≡ port_frame_begun self.old frame) }
         ensures err { OnErr result (self.new ≡ self.old) }
-        ensures promises { HasPromised (TouchesLeft self.old.plan self.old.side (writes_left (frame_begun self.old frame))) self.old self.new pair.old pair.new result }
+        ensures promises { HasPromised (TouchesLeft self.old.plan self.old.side (writes_left (port_frame_begun self.old frame))) self.old self.new pair.old pair.new result }
     {
         let largest = self.rings.out().max_payload();
         let from = self.sender.begun();
@@ -454,7 +454,7 @@ impl Port {
     fn begin_down(&mut self, pair: &mut Pair) -> Result<(), AllocError>
         requires plan { pair.old.plan ≡ self.old.plan }
         requires fit { SizesFit self.old.plan }
-        requires idle { is_busy self.old.sending ≡ false }
+        requires idle { is_port_busy self.old.sending ≡ false }
         ensures after { OnOk result (self.new ≡ down_begun self.old) }
         ensures err { OnErr result (self.new ≡ self.old) }
         ensures promises { HasPromised (TouchesLeft self.old.plan self.old.side (writes_left (down_begun self.old))) self.old self.new pair.old pair.new result }

@@ -4,7 +4,7 @@ ghost use Rattle.std.specs.Prelude.{◌≡◌, ℕ, ◌+◌, ◌%◌, ◌*◌, �
 ghost use Rattle.plan_numbers.specs.Memories.{memory_size};
 ghost use Rattle.pair_model.specs.Addresses.{own_address as address_in_window, own_header, own_index_word, own_slot};
 ghost use Rattle.pair_model.specs.Headers.{flags_offset as offset_of_flags, free_in_memory, header_in, index_word_in, word_at};
-ghost use Rattle.frame_ring.specs.Rings.{header_of, address_limit};
+ghost use Rattle.frame_ring.specs.Rings.{port_header_of, address_limit};
 ghost use Rattle.frame_ring.specs.PortView.{bytes_seen};
 ghost use Rattle.pair_model.specs.DeclaredPlans.{SizesFit};
 ghost use Rattle.pair_model.specs.Plans.{side_plan as side_plan_of};
@@ -79,7 +79,7 @@ fn word(rings: &QueueRings, pair: &Pair, at: u64) -> u32
 pub fn header(rings: &QueueRings, pair: &Pair, n: u64) -> HeaderWords
     requires plan { pair.now.plan ≡ rings.now.plan }
     requires fit { SizesFit rings.now.plan }
-    ensures { header_of result ≡ header_in rings.now.plan (bytes_seen pair.now) rings.now.side rings.now.queue n }
+    ensures { port_header_of result ≡ header_in rings.now.plan (bytes_seen pair.now) rings.now.side rings.now.queue n }
 {
     let at = header_at(rings, n);
     if rings.speaks_five() {

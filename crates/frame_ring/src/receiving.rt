@@ -2,12 +2,12 @@
 
 ghost use Rattle.std.specs.Prelude.{◌≡◌, ◌↔◌, ℕ, ◌+◌, ◌-◌, ◌*◌, ◌<◌, ◌≤◌, ◌++◌, IfOk, IsSome, IsTrue, OnErr, OnOk, length, min, true};
 ghost use Rattle.lane_model.specs.Lane.{chunk_size};
-ghost use Rattle.bridge_pair.specs.Bridge.{bytes_of};
+ghost use Rattle.bridge_pair.specs.Bridge.{bridge_bytes_of};
 ghost use Rattle.pair_model.specs.Headers.{found_with};
 ghost use Rattle.frame_ring.specs.Calls.{frame_of_copy, last_got, look_found, part_answer, part_copied};
 ghost use Rattle.frame_ring.specs.Incoming.{next_part};
 ghost use Rattle.frame_ring.specs.Outgoing.{most_numbers};
-ghost use Rattle.frame_ring.specs.Rings.{header_of, address_limit};
+ghost use Rattle.frame_ring.specs.Rings.{port_header_of, address_limit};
 ghost use Rattle.frame_ring.specs.Port.{nothing_received};
 ghost use Rattle.frame_ring.specs.PortView.{with_room};
 ghost use Rattle.frame_ring.specs.declared.RingLook.TheVariants.{Ready};
@@ -122,7 +122,7 @@ impl Receiver {
 
     /// Returns what a header says to the receiver.
     pub fn sight(&self, rings: &QueueRings, header: &HeaderWords) -> RingLook
-        ensures value { result ≡ look_found self.now (found_with (sizes_in rings.now.plan (layout_to rings.now.plan rings.now.side rings.now.queue)) self.now.got (length self.now.gathered) (header_of header.now)) }
+        ensures value { result ≡ look_found self.now (found_with (sizes_in rings.now.plan (layout_to rings.now.plan rings.now.side rings.now.queue)) self.now.got (length self.now.gathered) (port_header_of header.now)) }
         ensures few { (number len : ℕ) → result ≡ Ready number len → length self.now.gathered + len ≤ most_frame_bytes }
     {
         let own = ver_of(self.got);
@@ -184,9 +184,9 @@ impl Receiver {
     /// Copies the next part of the entry at hand, which stands at this address of the side's memory.
     pub fn copy(&mut self, pair: &Pair, side: Side, at: u64) -> LaneCopy
         requires copying { is_copying self.old.phase ≡ true }
-        requires within { at + next_part self.old ≤ length (bytes_of pair.now side) }
-        ensures answer { result ≡ part_answer self.old (self.old.gathered ++ bytes_at at (next_part self.old) (bytes_of pair.now side)) }
-        ensures after { self.new ≡ part_copied self.old (self.old.gathered ++ bytes_at at (next_part self.old) (bytes_of pair.now side)) }
+        requires within { at + next_part self.old ≤ length (bridge_bytes_of pair.now side) }
+        ensures answer { result ≡ part_answer self.old (self.old.gathered ++ bytes_at at (next_part self.old) (bridge_bytes_of pair.now side)) }
+        ensures after { self.new ≡ part_copied self.old (self.old.gathered ++ bytes_at at (next_part self.old) (bridge_bytes_of pair.now side)) }
     {
         let number = self.got;
         let part = self.part;
@@ -224,9 +224,9 @@ impl Receiver {
         at: u64,
     ) -> Result<Option<Frame>, AllocError>
         requires copying { is_copying self.now.phase ≡ true }
-        requires within { at + next_part self.now ≤ length (bytes_of pair.now side) }
-        ensures value { IfOk result (λ due. due ≡ frame_of_copy (part_answer self.now (self.now.gathered ++ bytes_at at (next_part self.now) (bytes_of pair.now side)))) }
-        ensures wants { OnErr result (IsSome (frame_of_copy (part_answer self.now (self.now.gathered ++ bytes_at at (next_part self.now) (bytes_of pair.now side))))) }
+        requires within { at + next_part self.now ≤ length (bridge_bytes_of pair.now side) }
+        ensures value { IfOk result (λ due. due ≡ frame_of_copy (part_answer self.now (self.now.gathered ++ bytes_at at (next_part self.now) (bridge_bytes_of pair.now side)))) }
+        ensures wants { OnErr result (IsSome (frame_of_copy (part_answer self.now (self.now.gathered ++ bytes_at at (next_part self.now) (bridge_bytes_of pair.now side))))) }
     {
         let part = self.part;
         let rest = self.len - CHUNK_SIZE * part;

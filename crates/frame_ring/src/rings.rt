@@ -6,7 +6,7 @@ ghost use Rattle.plan_numbers.specs.Memories.{memory_size};
 ghost use Rattle.pair_model.specs.Addresses.{own_address as own_address_of, own_header, own_index_word, own_slot};
 ghost use Rattle.pair_model.specs.Headers.{flags_offset as offset_of_flags};
 ghost use Rattle.pair_model.specs.RingWrites.{header_offset, slot_offset};
-ghost use Rattle.frame_ring.specs.Rings.{IsQueueOf};
+ghost use Rattle.frame_ring.specs.Rings.{IsPortQueue};
 ghost use Rattle.lane_model.specs.Ring.{free_entries};
 ghost use Rattle.pair_model.specs.DeclaredPlans.{IsPair, SizesFit};
 ghost use Rattle.pair_model.specs.Plans.{side_plan as side_plan_of};
@@ -73,7 +73,7 @@ impl QueueRings {
     /// It does nothing: its clause is the law.
     #[inline(always)]
     pub fn law(&self)
-        ensures { IsQueueOf self.now }
+        ensures { IsPortQueue self.now }
     {
         let _side = self.side();
     }
@@ -81,7 +81,7 @@ impl QueueRings {
     /// Returns the side, of a queue that it has.
     pub fn side(&self) -> Side
         ensures value { result ≡ self.now.side }
-        ensures law { IsQueueOf self.now }
+        ensures law { IsPortQueue self.now }
     {
         self.side
     }

@@ -2,9 +2,9 @@
 
 ghost use Rattle.std.specs.Prelude.{◌≡◌, ◌↔◌, IfOk, IsTrue, ◌+◌, ◌-◌, ◌*◌, ◌<◌, ◌≤◌, ◌∷◌, [], MatchOption, drop, length, not, take, true};
 ghost use Rattle.step_kinds.specs.Limits.{most_frame_bytes};
-ghost use Rattle.frame_ring.specs.Calls.{entries_begun, first_label, let_go, next_begun, rest_of};
-ghost use Rattle.frame_ring.specs.Outgoing.{IsLabelOf, all_writes_in, count_left, entries_under, entry_at, label_by, most_numbers, with_progress, writes_in, most_writes_left};
-ghost use Rattle.frame_ring.specs.Port.{is_busy as is_busy_by, nothing_sent};
+ghost use Rattle.frame_ring.specs.Calls.{entries_begun, first_label, let_go, port_next_begun, rest_of};
+ghost use Rattle.frame_ring.specs.Outgoing.{IsLabelOf, all_writes_in, count_left, entries_under, entry_at, label_by, most_numbers, with_progress, port_writes_in, most_writes_left};
+ghost use Rattle.frame_ring.specs.Port.{is_port_busy as is_busy_by, nothing_sent};
 ghost use Rattle.frame_ring.specs.Same.{IsSameSending};
 ghost use Rattle.lane_model.specs.Lane.{GoesDown, bytes_of, chunk_of, chunks_in, left_of};
 ghost use Rattle.lane_model.specs.Tests.{is_empty_list};
@@ -127,7 +127,7 @@ impl Sender {
 
     /// If all writes of an entry were posted, the next of its frame is begun.
     pub fn advance(&mut self)
-        ensures { self.new ≡ with_progress self.old (next_begun self.old.queue self.old.sending) }
+        ensures { self.new ≡ with_progress self.old (port_next_begun self.old.queue self.old.sending) }
     {
         let all = writes_of(&self.frame, self.largest, self.piece);
         if self.next == all && self.piece + 1 < self.pieces {
@@ -301,7 +301,7 @@ fn writes_of(frame: &Option<Frame>, largest: u32, piece: u32) -> u32
     requires among { piece < length (entries_under largest frame.now) }
     requires some { 4 ≤ largest }
     requires most { largest ≤ most_frame_bytes }
-    ensures value { result ≡ writes_in (entry_at (entries_under largest frame.now) piece) }
+    ensures value { result ≡ port_writes_in (entry_at (entries_under largest frame.now) piece) }
     ensures few { result ≤ 516 }
 {
     let payload = payload_of(frame, largest, piece);

@@ -3,7 +3,7 @@ use Rattle.std.proofs.Common.{◌≡◌, ℕ, inl, inr, true, List, ap, ◌∙�
 use Rattle.pair_model.specs.FreshRings.{fresh_index_words, zeroed_headers}
 use Rattle.step_kinds.specs.declared.names.Side.{Side}
 use Rattle.step_kinds.specs.declared.names.Side.TheVariants.{A, B}
-use Rattle.bridge_pair.specs.Bridge.{Bridge, book_of, bytes_of, pages_of, with_book, with_bytes, with_pages}
+use Rattle.bridge_pair.specs.Bridge.{Bridge, book_of, bridge_bytes_of, pages_of, with_book, with_bytes, with_pages}
 use Rattle.bridge_pair.specs.Ends.{bytes_after}
 use Rattle.bridge_pair.specs.Pages.{PagesGrow}
 use Rattle.bridge_pair.specs.Words.{AreIndexWordsPromised, TouchesIndexWord}
@@ -16,10 +16,10 @@ use Rattle.hand_shake.proofs.HeaderPages.{bytes_after-append, ready_still}
 
 -- what each step makes of a bridge: headers are zeroed, index words are set, and the book says that the side is up
 abbrev with_zeroed : Bridge → Side → Bridge
-with_zeroed bridge side = with_bytes bridge side (bytes_after (zeroed_headers bridge.plan side) (bytes_of bridge side))
+with_zeroed bridge side = with_bytes bridge side (bytes_after (zeroed_headers bridge.plan side) (bridge_bytes_of bridge side))
 
 abbrev with_words : Bridge → Side → Bridge
-with_words bridge side = with_bytes bridge side (bytes_after (fresh_index_words bridge.plan side) (bytes_of bridge side))
+with_words bridge side = with_bytes bridge side (bytes_after (fresh_index_words bridge.plan side) (bridge_bytes_of bridge side))
 
 abbrev with_up : Bridge → Side → Bridge
 with_up bridge side = with_book bridge side (record (book_of bridge side) { up = true })
@@ -38,7 +38,7 @@ fresh_with old side headers words = with_up (with_words (with_zeroed (with_pages
 
 -- bytes and book at once, and then the pages
 fresh_at_once : (old : Bridge) (side : Side) (headers words : List ℕ)
-    → fresh_with old side headers words ≡ with_pages (with_up (with_bytes old side (bytes_after (fresh_index_words old.plan side) (bytes_after (zeroed_headers old.plan side) (bytes_of old side)))) side) side words
+    → fresh_with old side headers words ≡ with_pages (with_up (with_bytes old side (bytes_after (fresh_index_words old.plan side) (bytes_after (zeroed_headers old.plan side) (bridge_bytes_of old side)))) side) side words
 fresh_at_once old A headers words = refl
 fresh_at_once old B headers words = refl
 
@@ -66,7 +66,7 @@ came_up_is old headers words zeroed set new side comes = (together, same)
     together =
         chain
         ∙ fresh_at_once old side (pages_of headers side) (pages_of words side)
-        ∙ ap (λ bytes. with_pages (with_up (with_bytes old side bytes) side) side (pages_of words side)) (sym (bytes_after-append (fresh_index_words old.plan side) (zeroed_headers old.plan side) (bytes_of old side)))
+        ∙ ap (λ bytes. with_pages (with_up (with_bytes old side bytes) side) side (pages_of words side)) (sym (bytes_after-append (fresh_index_words old.plan side) (zeroed_headers old.plan side) (bridge_bytes_of old side)))
         ∙ ap (λ pages. with_pages (came_up old side) side pages) (sym same)
 
 -- the pages of the headers, and then of the index words
@@ -89,6 +89,6 @@ rings_ready plan same side bytes headers words new plans grow pages first second
     (headers_still plan same side bytes headers words grow first, subst (λ (plan : PairPlan). AreIndexWordsPromised plan side words) plans second)
 
 -- the pages that a check promises are those of a side that comes up
-pub where_up : (bridge : Bridge) (side : Side) (old new : List ℕ) → check_answer bridge side ≡ Up → PagesGrow (TouchesAnyRing bridge.plan side (bytes_of bridge side)) old new → PagesGrow (TouchesRings bridge side) old new
+pub where_up : (bridge : Bridge) (side : Side) (old new : List ℕ) → check_answer bridge side ≡ Up → PagesGrow (TouchesAnyRing bridge.plan side (bridge_bytes_of bridge side)) old new → PagesGrow (TouchesRings bridge side) old new
 where_up bridge side old new up grow =
-    grows_further (TouchesRings bridge side) (TouchesAnyRing bridge.plan side (bytes_of bridge side)) old old new (grows_nothing (TouchesRings bridge side) old) grow (λ page touch. (up, touch))
+    grows_further (TouchesRings bridge side) (TouchesAnyRing bridge.plan side (bridge_bytes_of bridge side)) old old new (grows_nothing (TouchesRings bridge side) old) grow (λ page touch. (up, touch))

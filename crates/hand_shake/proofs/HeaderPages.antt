@@ -15,7 +15,7 @@ use Rattle.ring_geometry.specs.Geometry.{Layout, entries_of, frame_size, header_
 use Rattle.step_kinds.specs.declared.names.Side.{Side}
 use Rattle.step_kinds.specs.declared.names.Side.TheVariants.{A, B}
 use Rattle.step_kinds.specs.declared.plan.PairPlan.{PairPlan}
-use Rattle.bridge_pair.specs.Bridge.{Bridge, bytes_of, pages_of, with_bytes, with_pages}
+use Rattle.bridge_pair.specs.Bridge.{Bridge, bridge_bytes_of, pages_of, with_bytes, with_pages}
 use Rattle.bridge_pair.specs.Ends.{bytes_after}
 use Rattle.bridge_pair.specs.Pages.{PagesGrow}
 use Rattle.bridge_pair.proofs.Facade.{grows_further, grows_nothing, promised_still}
@@ -74,17 +74,17 @@ header_back plan same side ring n later last slot gap plans is_ring fits least w
     (omega (arith, at, row, gaps), omega (arith, at, row, gaps))
 
 -- a fact of the plan and of a side's bytes, where only pages were promised since
-pub seen_again : (old new : Bridge) (side : Side) (P : PairPlan → List ℕ → Type 0) → new ≡ with_pages old side (pages_of new side) → P new.plan (bytes_of new side) → P old.plan (bytes_of old side)
-seen_again old new A P same fact = subst (λ (bridge : Bridge). P bridge.plan (bytes_of bridge A)) same fact
-seen_again old new B P same fact = subst (λ (bridge : Bridge). P bridge.plan (bytes_of bridge B)) same fact
+pub seen_again : (old new : Bridge) (side : Side) (P : PairPlan → List ℕ → Type 0) → new ≡ with_pages old side (pages_of new side) → P new.plan (bridge_bytes_of new side) → P old.plan (bridge_bytes_of old side)
+seen_again old new A P same fact = subst (λ (bridge : Bridge). P bridge.plan (bridge_bytes_of bridge A)) same fact
+seen_again old new B P same fact = subst (λ (bridge : Bridge). P bridge.plan (bridge_bytes_of bridge B)) same fact
 
 -- A fact of the plan and of a side's bytes still holds where only pages of that side were promised since.
-pub seen_since : (old new : Bridge) (side : Side) (P : PairPlan → List ℕ → Type 0) → new ≡ with_pages old side (pages_of new side) → P old.plan (bytes_of old side) → P new.plan (bytes_of new side)
-seen_since old new A P same fact = subst (λ (bridge : Bridge). P bridge.plan (bytes_of bridge A)) (sym same) fact
-seen_since old new B P same fact = subst (λ (bridge : Bridge). P bridge.plan (bytes_of bridge B)) (sym same) fact
+pub seen_since : (old new : Bridge) (side : Side) (P : PairPlan → List ℕ → Type 0) → new ≡ with_pages old side (pages_of new side) → P old.plan (bridge_bytes_of old side) → P new.plan (bridge_bytes_of new side)
+seen_since old new A P same fact = subst (λ (bridge : Bridge). P bridge.plan (bridge_bytes_of bridge A)) (sym same) fact
+seen_since old new B P same fact = subst (λ (bridge : Bridge). P bridge.plan (bridge_bytes_of bridge B)) (sym same) fact
 
 -- a side with the bytes that it has
-pub bytes_same : (bridge : Bridge) (side : Side) → with_bytes bridge side (bytes_of bridge side) ≡ bridge
+pub bytes_same : (bridge : Bridge) (side : Side) → with_bytes bridge side (bridge_bytes_of bridge side) ≡ bridge
 bytes_same bridge A = refl
 bytes_same bridge B = refl
 
@@ -107,10 +107,10 @@ one_promised at len from count new (Err wants) is_at is_len promised = tt
 
 -- Pages promised in two goes for headers of a ring that aren't zero are all promised for such headers.
 pub header_grows : (old now : Bridge) (side : Side) (queue : ℕ) (new : List ℕ) → now ≡ with_pages old side (pages_of now side)
-    → PagesGrow (TouchesHeaderOf old.plan side queue (bytes_of old side)) (pages_of old side) (pages_of now side)
-    → PagesGrow (TouchesHeaderOf now.plan side queue (bytes_of now side)) (pages_of now side) new → PagesGrow (TouchesHeaderOf old.plan side queue (bytes_of old side)) (pages_of old side) new
+    → PagesGrow (TouchesHeaderOf old.plan side queue (bridge_bytes_of old side)) (pages_of old side) (pages_of now side)
+    → PagesGrow (TouchesHeaderOf now.plan side queue (bridge_bytes_of now side)) (pages_of now side) new → PagesGrow (TouchesHeaderOf old.plan side queue (bridge_bytes_of old side)) (pages_of old side) new
 header_grows old now side queue new same so_far next =
-    grows_further (TouchesHeaderOf old.plan side queue (bytes_of old side)) (TouchesHeaderOf now.plan side queue (bytes_of now side)) _ _ _ so_far next
+    grows_further (TouchesHeaderOf old.plan side queue (bridge_bytes_of old side)) (TouchesHeaderOf now.plan side queue (bridge_bytes_of now side)) _ _ _ so_far next
     (λ page touch. seen_again old now side (λ plan bytes. TouchesHeaderOf plan side queue bytes page) same touch)
 
 -- a header that is ready stays so
@@ -124,36 +124,36 @@ receiving plan side queue ring is among = subst (λ (l : Layout). IsReceivingRin
 
 -- headers after one are ready once it is promised, and so are those before it that are zero
 pub ready_down : (old now new : Bridge) (side : Side) (queue from count all : ℕ) → now ≡ with_pages old side (pages_of now side) → new ≡ with_pages old side (pages_of new side)
-    → ((k : ℕ) → count ≤ k → k < all → IsHeaderReady old.plan side queue k (bytes_of old side) (pages_of now side))
-    → PagesGrow (TouchesHeaderOf now.plan side queue (bytes_of now side)) (pages_of now side) (pages_of new side)
+    → ((k : ℕ) → count ≤ k → k < all → IsHeaderReady old.plan side queue k (bridge_bytes_of old side) (pages_of now side))
+    → PagesGrow (TouchesHeaderOf now.plan side queue (bridge_bytes_of now side)) (pages_of now side) (pages_of new side)
     → ArePromised (own_header now.plan side queue (count - 1)) (header_bytes now.plan) (pages_of new side)
-    → AreSomeZeroed new.plan side queue from (count - 1) (bytes_of new side)
-    → (k : ℕ) → from ≤ k → k < all → IsHeaderReady old.plan side queue k (bytes_of old side) (pages_of new side)
+    → AreSomeZeroed new.plan side queue from (count - 1) (bridge_bytes_of new side)
+    → (k : ℕ) → from ≤ k → k < all → IsHeaderReady old.plan side queue k (bridge_bytes_of old side) (pages_of new side)
 ready_down old now new side queue from count all same so so_far next promised zeroed k least below = elim (cases_lt k (count - 1)) [
   | inl before ↦ inl (seen_again old new side (λ plan bytes. IsZeroed plan side queue k bytes) so (zeroed k least before))
   | inr behind ↦ elim (cases_lt k count) [
     | inl here ↦ (let is : count - 1 ≡ k = omega (arith, behind, here) in
         inr (seen_again old now side (λ plan bytes. ArePromised (own_header plan side queue k) (header_bytes plan) (pages_of new side)) same
         (subst (λ (n : ℕ). ArePromised (own_header now.plan side queue n) (header_bytes now.plan) (pages_of new side)) is promised)))
-    | inr after ↦ ready_still (TouchesHeaderOf now.plan side queue (bytes_of now side)) old.plan side queue k (bytes_of old side) _ (pages_of new side) next (so_far k after below)
+    | inr after ↦ ready_still (TouchesHeaderOf now.plan side queue (bridge_bytes_of now side)) old.plan side queue k (bridge_bytes_of old side) _ (pages_of new side) next (so_far k after below)
   ]
 ]
 
 -- Pages promised for a side's headers that aren't zero, and then for those of one ring, are all such headers'.
 pub ring_grows : (old now : Bridge) (side : Side) (queue : ℕ) (new : List ℕ) → now ≡ with_pages old side (pages_of now side) → queue < (side_plan old.plan side).queues
-    → PagesGrow (TouchesHeader old.plan side (bytes_of old side)) (pages_of old side) (pages_of now side)
-    → PagesGrow (TouchesHeaderOf now.plan side queue (bytes_of now side)) (pages_of now side) new → PagesGrow (TouchesHeader old.plan side (bytes_of old side)) (pages_of old side) new
+    → PagesGrow (TouchesHeader old.plan side (bridge_bytes_of old side)) (pages_of old side) (pages_of now side)
+    → PagesGrow (TouchesHeaderOf now.plan side queue (bridge_bytes_of now side)) (pages_of now side) new → PagesGrow (TouchesHeader old.plan side (bridge_bytes_of old side)) (pages_of old side) new
 ring_grows old now side queue new same among so_far next =
-    grows_further (TouchesHeader old.plan side (bytes_of old side)) (TouchesHeaderOf now.plan side queue (bytes_of now side)) _ _ _ so_far next
+    grows_further (TouchesHeader old.plan side (bridge_bytes_of old side)) (TouchesHeaderOf now.plan side queue (bridge_bytes_of now side)) _ _ _ so_far next
     (λ page touch. (queue, among, seen_again old now side (λ plan bytes. TouchesHeaderOf plan side queue bytes page) same touch))
 
 -- If all headers of the rings before one can be zeroed, and then that one's too, those of all up to it can be.
 pub ring_ready : (old now : Bridge) (side : Side) (queue : ℕ) (new : List ℕ) → now ≡ with_pages old side (pages_of now side)
-    → ((k : ℕ) → k < queue → AreHeadersOfReady old.plan side k (bytes_of old side) (pages_of now side)) → PagesGrow (TouchesHeaderOf now.plan side queue (bytes_of now side)) (pages_of now side) new
-    → AreHeadersOfReady now.plan side queue (bytes_of now side) new → (k : ℕ) → k < queue + 1 → AreHeadersOfReady old.plan side k (bytes_of old side) new
+    → ((k : ℕ) → k < queue → AreHeadersOfReady old.plan side k (bridge_bytes_of old side) (pages_of now side)) → PagesGrow (TouchesHeaderOf now.plan side queue (bridge_bytes_of now side)) (pages_of now side) new
+    → AreHeadersOfReady now.plan side queue (bridge_bytes_of now side) new → (k : ℕ) → k < queue + 1 → AreHeadersOfReady old.plan side k (bridge_bytes_of old side) new
 ring_ready old now side queue new same so_far next ready =
-    below_more (λ k. AreHeadersOfReady old.plan side k (bytes_of old side) new) queue
-    (λ k below n within. ready_still (TouchesHeaderOf now.plan side queue (bytes_of now side)) old.plan side k n (bytes_of old side) _ new next (so_far k below n within))
+    below_more (λ k. AreHeadersOfReady old.plan side k (bridge_bytes_of old side) new) queue
+    (λ k below n within. ready_still (TouchesHeaderOf now.plan side queue (bridge_bytes_of now side)) old.plan side k n (bridge_bytes_of old side) _ new next (so_far k below n within))
     (seen_again old now side (λ plan bytes. AreHeadersOfReady plan side queue bytes new) same ready)
 
 -- Zeroing
@@ -199,7 +199,7 @@ zeros_promised plan at from len pages is_from is_len promised page touch =
 
 -- Zeros written at a header's place, as many as it has bytes, make the header zero.
 pub zeros_over : (bridge : Bridge) (side : Side) (at from len : ℕ) → from ≡ at → len ≡ header_bytes bridge.plan
-    → with_bytes bridge side (written from (take len (replicate {A = ℕ} 16 0)) (bytes_of bridge side)) ≡ with_bytes bridge side (written at (replicate (header_bytes bridge.plan) 0) (bytes_of bridge side))
+    → with_bytes bridge side (written from (take len (replicate {A = ℕ} 16 0)) (bridge_bytes_of bridge side)) ≡ with_bytes bridge side (written at (replicate (header_bytes bridge.plan) 0) (bridge_bytes_of bridge side))
 zeros_over bridge side at from len is_from is_len =
-    ap (λ (place : ℕ). with_bytes bridge side (written place (take len (replicate {A = ℕ} 16 0)) (bytes_of bridge side))) is_from
-    ∙ ap (λ (zeros : List ℕ). with_bytes bridge side (written at zeros (bytes_of bridge side))) (zeros_of bridge.plan len is_len)
+    ap (λ (place : ℕ). with_bytes bridge side (written place (take len (replicate {A = ℕ} 16 0)) (bridge_bytes_of bridge side))) is_from
+    ∙ ap (λ (zeros : List ℕ). with_bytes bridge side (written at zeros (bridge_bytes_of bridge side))) (zeros_of bridge.plan len is_len)

@@ -11,7 +11,7 @@ use Rattle.pair_model.specs.Sizes.{header_bytes, layout_to}
 use Rattle.ring_geometry.specs.Geometry.{entries_of}
 use Rattle.step_kinds.specs.declared.names.Side.{Side}
 use Rattle.step_kinds.specs.declared.plan.PairPlan.{PairPlan}
-use Rattle.bridge_pair.specs.Bridge.{Bridge, bytes_of, with_bytes}
+use Rattle.bridge_pair.specs.Bridge.{Bridge, bridge_bytes_of, with_bytes}
 use Rattle.bridge_pair.specs.Ends.{bytes_after}
 use Rattle.hand_shake.specs.Headers.{AreSomeZeroed, IsZeroed, some_stores}
 use Rattle.hand_shake.proofs.HeaderPages.{at_same, bytes_after-append, header_order}
@@ -77,12 +77,12 @@ zeroed_one plan side queue n to bytes one zeroed k least below =
     subst (λ (m : ℕ). IsZeroed plan side queue m bytes) same zeroed
 
 -- so headers that are zero may be passed over
-pub passed_over : (old now : Bridge) (side : Side) (queue from to all : ℕ) → now ≡ with_bytes old side (bytes_after (some_stores old.plan side queue to (all - to)) (bytes_of old side))
-    → from ≤ to → to ≤ all → all ≤ entries_of (layout_to old.plan side queue) → AreSomeZeroed now.plan side queue from to (bytes_of now side)
-    → (0 < to → own_header now.plan side queue (to - 1) + header_bytes now.plan ≤ length (bytes_of now side))
-    → now ≡ with_bytes old side (bytes_after (some_stores old.plan side queue from (all - from)) (bytes_of old side))
+pub passed_over : (old now : Bridge) (side : Side) (queue from to all : ℕ) → now ≡ with_bytes old side (bytes_after (some_stores old.plan side queue to (all - to)) (bridge_bytes_of old side))
+    → from ≤ to → to ≤ all → all ≤ entries_of (layout_to old.plan side queue) → AreSomeZeroed now.plan side queue from to (bridge_bytes_of now side)
+    → (0 < to → own_header now.plan side queue (to - 1) + header_bytes now.plan ≤ length (bridge_bytes_of now side))
+    → now ≡ with_bytes old side (bytes_after (some_stores old.plan side queue from (all - from)) (bridge_bytes_of old side))
 passed_over old now side queue from to all so_far least most slots zeroed within =
-    let later = bytes_after (some_stores old.plan side queue to (all - to)) (bytes_of old side) in
+    let later = bytes_after (some_stores old.plan side queue to (all - to)) (bridge_bytes_of old side) in
     let all_of : to ≡ from + (to - from) = omega (arith, least) in
     let zero : AreSomeZeroed old.plan side queue from (from + (to - from)) later =
     subst (λ (m : ℕ). AreSomeZeroed old.plan side queue from m later) all_of (stored_before old now side later (λ plan bytes. AreSomeZeroed plan side queue from to bytes) so_far zeroed) in
@@ -92,7 +92,7 @@ passed_over old now side queue from to all so_far least most slots zeroed within
           (stored_before old now side later (λ plan bytes. own_header plan side queue (to - 1) + header_bytes plan ≤ length bytes) so_far (within (omega (arith, some))))) zero
       | inr none ↦ (let empty : to - from ≡ 0 = omega (arith, none) in ap (λ (count : ℕ). bytes_after (some_stores old.plan side queue from count) later) empty)
     ] in
-    so_far ∙ ap (λ bytes. with_bytes old side bytes) (sym nothing ∙ some_before old.plan old.plan side queue from to all (bytes_of old side) refl least most)
+    so_far ∙ ap (λ bytes. with_bytes old side bytes) (sym nothing ∙ some_before old.plan old.plan side queue from to all (bridge_bytes_of old side) refl least most)
 
 -- the bytes from the first one's beginning to the last one's end, by a plan that is the same
 pub span_of : (plan same : PairPlan) (side : Side) (queue from to first last len header : ℕ) → same ≡ plan → from < to → to ≤ entries_of (layout_to plan side queue)

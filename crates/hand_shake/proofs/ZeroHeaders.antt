@@ -15,7 +15,7 @@ use Rattle.pair_model.specs.Sizes.{header_bytes, layout_to}
 use Rattle.ring_geometry.specs.Geometry.{entries_of}
 use Rattle.pair_model.specs.Addresses.{own_header}
 use Rattle.pair_model.specs.FreshRings.{zeroed_header}
-use Rattle.bridge_pair.specs.Bridge.{Bridge, bytes_of, pages_of, with_bytes}
+use Rattle.bridge_pair.specs.Bridge.{Bridge, bridge_bytes_of, pages_of, with_bytes}
 use Rattle.bridge_pair.specs.Ends.{bytes_after}
 use Rattle.hand_shake.specs.Headers.{AreHeadersOfReady, AreSomeZeroed, IsHeaderReady, ring_stores}
 use Rattle.hand_shake.proofs.HeaderPages.{bytes_after-append, header_order}
@@ -87,14 +87,14 @@ ready_after_rings plan side queue queues mem pages ready = λ n within. elim (re
 
 -- a fact of the plan, of a side's bytes and of its pages, where only bytes were stored since
 pub stored_again : (old new : Bridge) (side : Side) (bytes : List ℕ) (P : PairPlan → List ℕ → List ℕ → Type 0) → new ≡ with_bytes old side bytes → P old.plan bytes (pages_of old side)
-    → P new.plan (bytes_of new side) (pages_of new side)
-stored_again old new A bytes P same fact = subst (λ (bridge : Bridge). P bridge.plan (bytes_of bridge A) (pages_of bridge A)) (sym same) fact
-stored_again old new B bytes P same fact = subst (λ (bridge : Bridge). P bridge.plan (bytes_of bridge B) (pages_of bridge B)) (sym same) fact
+    → P new.plan (bridge_bytes_of new side) (pages_of new side)
+stored_again old new A bytes P same fact = subst (λ (bridge : Bridge). P bridge.plan (bridge_bytes_of bridge A) (pages_of bridge A)) (sym same) fact
+stored_again old new B bytes P same fact = subst (λ (bridge : Bridge). P bridge.plan (bridge_bytes_of bridge B) (pages_of bridge B)) (sym same) fact
 
 -- A fact of a side's bytes once they are stored, and of the plan then, holds of these bytes and the plan before.
-pub stored_before : (old new : Bridge) (side : Side) (bytes : List ℕ) (P : PairPlan → List ℕ → Type 0) → new ≡ with_bytes old side bytes → P new.plan (bytes_of new side) → P old.plan bytes
-stored_before old new A bytes P same fact = subst (λ (bridge : Bridge). P bridge.plan (bytes_of bridge A)) same fact
-stored_before old new B bytes P same fact = subst (λ (bridge : Bridge). P bridge.plan (bytes_of bridge B)) same fact
+pub stored_before : (old new : Bridge) (side : Side) (bytes : List ℕ) (P : PairPlan → List ℕ → Type 0) → new ≡ with_bytes old side bytes → P new.plan (bridge_bytes_of new side) → P old.plan bytes
+stored_before old new A bytes P same fact = subst (λ (bridge : Bridge). P bridge.plan (bridge_bytes_of bridge A)) same fact
+stored_before old new B bytes P same fact = subst (λ (bridge : Bridge). P bridge.plan (bridge_bytes_of bridge B)) same fact
 
 -- zeros that are written over zeros change nothing
 pub written_zeros : (at len : ℕ) (mem : List ℕ) → at + len ≤ length mem → AreZero at len mem → written at (replicate len 0) mem ≡ mem

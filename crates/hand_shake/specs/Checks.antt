@@ -8,7 +8,7 @@ use Rattle.pair_model.specs.Refusals.{Test, OfLink, OfCheck, OfOffer, OfVersion,
 use Rattle.step_kinds.specs.declared.plan.SidePlan.{SidePlan}
 use Rattle.step_kinds.specs.declared.names.Side.{Side}
 use Rattle.step_kinds.specs.declared.plan.PairPlan.{PairPlan}
-use Rattle.bridge_pair.specs.Bridge.{Bridge, book_of, bytes_of, pads_of, with_book, with_bytes}
+use Rattle.bridge_pair.specs.Bridge.{Bridge, book_of, bridge_bytes_of, pads_of, with_book, with_bytes}
 use Rattle.bridge_pair.specs.Ends.{bytes_after}
 use Rattle.bridge_pair.specs.Words.{TouchesIndexWord}
 use Rattle.hand_shake.specs.Headers.{TouchesHeader}
@@ -48,18 +48,18 @@ check_answer bridge side = in_check_order (check_tests bridge side) Up
 
 -- all headers of the rings that the side receives in are zero, and its index words say that no entry is taken
 abbrev pub fresh_rings : Bridge → Side → List ℕ
-fresh_rings bridge side = bytes_after (fresh_index_words bridge.plan side ++ zeroed_headers bridge.plan side) (bytes_of bridge side)
+fresh_rings bridge side = bytes_after (fresh_index_words bridge.plan side ++ zeroed_headers bridge.plan side) (bridge_bytes_of bridge side)
 
 abbrev pub came_up : Bridge → Side → Bridge
 came_up bridge side = with_book (with_bytes bridge side (fresh_rings bridge side)) side (record (book_of bridge side) { up = true })
 
 -- the side after a check: a refusal changes nothing
-abbrev pub after_answer : Bridge → Side → CheckAnswer → Bridge
-after_answer bridge side Up = came_up bridge side
-after_answer bridge side answer = bridge
+abbrev pub after_check_answer : Bridge → Side → CheckAnswer → Bridge
+after_check_answer bridge side Up = came_up bridge side
+after_check_answer bridge side answer = bridge
 
 abbrev pub after_check : Bridge → Side → Bridge
-after_check bridge side = after_answer bridge side (check_answer bridge side)
+after_check bridge side = after_check_answer bridge side (check_answer bridge side)
 
 -- the page has a byte of a header of the side's rings that isn't zero, or of its index words
 abbrev pub TouchesAnyRing : PairPlan → Side → List ℕ → ℕ → Type 0
@@ -67,4 +67,4 @@ TouchesAnyRing plan side bytes page = TouchesHeader plan side bytes page ⊎ Tou
 
 -- the pages that a check promises, where it comes up
 abbrev pub TouchesRings : Bridge → Side → ℕ → Type 0
-TouchesRings bridge side page = (check_answer bridge side ≡ Up) × TouchesAnyRing bridge.plan side (bytes_of bridge side) page
+TouchesRings bridge side page = (check_answer bridge side ≡ Up) × TouchesAnyRing bridge.plan side (bridge_bytes_of bridge side) page

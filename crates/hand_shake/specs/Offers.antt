@@ -40,9 +40,9 @@ offered bridge side =
     (record (book_of bridge side) { offered = (book_of bridge side).offered + 1 })
 
 -- a refusal changes nothing
-abbrev pub after_answer : Bridge → Side → OfferAnswer → Bridge
-after_answer bridge side (Offered index) = offered bridge side
-after_answer bridge side answer = bridge
+abbrev pub after_offer_answer : Bridge → Side → OfferAnswer → Bridge
+after_offer_answer bridge side (Offered index) = offered bridge side
+after_offer_answer bridge side answer = bridge
 
 abbrev pub after_offer : Bridge → Side → Bridge
-after_offer bridge side = after_answer bridge side (offer_answer bridge side)
+after_offer bridge side = after_offer_answer bridge side (offer_answer bridge side)

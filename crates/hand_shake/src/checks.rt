@@ -1,7 +1,7 @@
 //! Checking.
 
 ghost use Rattle.std.specs.Prelude.{◌≡◌, ◌≢◌, ◌≤◌, ◌<◌, IfOk, OnErr, OnOk, Option, Some, None, option_map};
-ghost use Rattle.bridge_pair.specs.Bridge.{bytes_of, pads_of, pages_of, with_pages};
+ghost use Rattle.bridge_pair.specs.Bridge.{bridge_bytes_of, pads_of, pages_of, with_pages};
 ghost use Rattle.bridge_pair.specs.Pages.{PagesGrow};
 ghost use Rattle.plan_numbers.specs.Memories.{WindowsFit};
 ghost use Rattle.hand_shake.specs.Checks.{TouchesAnyRing, TouchesRings, after_check, came_up, check_answer as answer_by, unless_larger};
@@ -43,7 +43,7 @@ pub fn check(pair: &mut Pair, side: Side) -> Result<CheckAnswer, AllocError>
     ensures after { OnOk result (pair.new ≡ with_pages (after_check pair.old side) side (pages_of pair.new side)) }
     ensures err { OnErr result (pair.new ≡ with_pages pair.old side (pages_of pair.new side)) }
     ensures pages { PagesGrow (TouchesRings pair.old side) (pages_of pair.old side) (pages_of pair.new side) }
-    ensures ready { OnOk result (answer_by pair.old side ≡ Up → AreRingsReady pair.old.plan side (bytes_of pair.old side) (pages_of pair.new side)) }
+    ensures ready { OnOk result (answer_by pair.old side ≡ Up → AreRingsReady pair.old.plan side (bridge_bytes_of pair.old side) (pages_of pair.new side)) }
     ensures wants { OnErr result (answer_by pair.old side ≡ Up) }
     ensures same { answer_by pair.old side ≢ Up → pair.new ≡ pair.old }
 {
@@ -59,8 +59,8 @@ fn come_up(pair: &mut Pair, side: Side) -> Result<(), AllocError>
     requires { WindowsFit pair.old.plan side }
     ensures ok { OnOk result (pair.new ≡ with_pages (came_up pair.old side) side (pages_of pair.new side)) }
     ensures err { OnErr result (pair.new ≡ with_pages pair.old side (pages_of pair.new side)) }
-    ensures pages { PagesGrow (TouchesAnyRing pair.old.plan side (bytes_of pair.old side)) (pages_of pair.old side) (pages_of pair.new side) }
-    ensures ready { OnOk result (AreRingsReady pair.old.plan side (bytes_of pair.old side) (pages_of pair.new side)) }
+    ensures pages { PagesGrow (TouchesAnyRing pair.old.plan side (bridge_bytes_of pair.old side)) (pages_of pair.old side) (pages_of pair.new side) }
+    ensures ready { OnOk result (AreRingsReady pair.old.plan side (bridge_bytes_of pair.old side) (pages_of pair.new side)) }
 {
     promise_headers(pair, side)?;
     pair.promise_index_words(side)?;

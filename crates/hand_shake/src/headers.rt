@@ -5,7 +5,7 @@
 
 ghost use Rattle.std.specs.Prelude.{◌≡◌, ◌↔◌, ◌+◌, ◌-◌, ◌<◌, ◌≤◌, IsTrue, OnOk, length, replicate};
 ghost use Rattle.plan_numbers.specs.Memories.{memory_size, WindowsFit};
-ghost use Rattle.bridge_pair.specs.Bridge.{bytes_of, pages_of, with_bytes};
+ghost use Rattle.bridge_pair.specs.Bridge.{bridge_bytes_of, pages_of, with_bytes};
 ghost use Rattle.bridge_pair.specs.Ends.{bytes_after};
 ghost use Rattle.bridge_pair.specs.Pages.{OnlyPagesGrow};
 ghost use Rattle.pair_model.specs.Addresses.{own_header};
@@ -31,8 +31,8 @@ const TOGETHER_BYTES: u32 = 1024;
 /// may be promised.
 pub fn promise_headers(pair: &mut Pair, side: Side) -> Result<(), AllocError>
     requires { WindowsFit pair.old.plan side }
-    ensures grown { OnlyPagesGrow (TouchesHeader pair.old.plan side (bytes_of pair.old side)) side pair.old pair.new }
-    ensures ok { OnOk result (AreHeadersReady pair.old.plan side (bytes_of pair.old side) (pages_of pair.new side)) }
+    ensures grown { OnlyPagesGrow (TouchesHeader pair.old.plan side (bridge_bytes_of pair.old side)) side pair.old pair.new }
+    ensures ok { OnOk result (AreHeadersReady pair.old.plan side (bridge_bytes_of pair.old side) (pages_of pair.new side)) }
 {
     let queues = side_plan(pair.plan(), side).queues;
     for queue in 0..queues {
@@ -45,8 +45,8 @@ pub fn promise_headers(pair: &mut Pair, side: Side) -> Result<(), AllocError>
 fn promise_headers_of(pair: &mut Pair, side: Side, queue: u32) -> Result<(), AllocError>
     requires fit { WindowsFit pair.old.plan side }
     requires among { queue < (side_plan_of pair.old.plan side).queues }
-    ensures grown { OnlyPagesGrow (TouchesHeaderOf pair.old.plan side queue (bytes_of pair.old side)) side pair.old pair.new }
-    ensures ok { OnOk result (AreHeadersOfReady pair.old.plan side queue (bytes_of pair.old side) (pages_of pair.new side)) }
+    ensures grown { OnlyPagesGrow (TouchesHeaderOf pair.old.plan side queue (bridge_bytes_of pair.old side)) side pair.old pair.new }
+    ensures ok { OnOk result (AreHeadersOfReady pair.old.plan side queue (bridge_bytes_of pair.old side) (pages_of pair.new side)) }
 {
     let ring = receiving_ring(pair.plan(), side, queue);
     let mut count = up_to_nonzero(pair, side, &ring, ring.entries());
@@ -62,8 +62,8 @@ fn promise_header(pair: &mut Pair, side: Side, ring: &Geometry, n: u32) -> Resul
     requires fit { WindowsFit pair.old.plan side }
     requires ring { IsReceivingRing pair.old.plan side ring.now }
     requires slot { n < entries_of ring.now }
-    requires nonzero { ¬ IsZeroed pair.old.plan side ring.now.queue n (bytes_of pair.old side) }
-    ensures grown { OnlyPagesGrow (TouchesHeaderOf pair.old.plan side ring.now.queue (bytes_of pair.old side)) side pair.old pair.new }
+    requires nonzero { ¬ IsZeroed pair.old.plan side ring.now.queue n (bridge_bytes_of pair.old side) }
+    ensures grown { OnlyPagesGrow (TouchesHeaderOf pair.old.plan side ring.now.queue (bridge_bytes_of pair.old side)) side pair.old pair.new }
     ensures ok { OnOk result (ArePromised (own_header pair.old.plan side ring.now.queue n) (bytes_of_header pair.old.plan) (pages_of pair.new side)) }
 {
     let at = header_at(pair.plan(), side, ring, n);
@@ -74,8 +74,8 @@ fn promise_header(pair: &mut Pair, side: Side, ring: &Geometry, n: u32) -> Resul
 /// Zeroes all headers of the rings that a side receives in. The pages of those that aren't zero have to be promised.
 pub fn zero_headers(pair: &mut Pair, side: Side)
     requires fit { WindowsFit pair.old.plan side }
-    requires ready { AreHeadersReady pair.old.plan side (bytes_of pair.old side) (pages_of pair.old side) }
-    ensures { pair.new ≡ with_bytes pair.old side (bytes_after (zeroed_headers pair.old.plan side) (bytes_of pair.old side)) }
+    requires ready { AreHeadersReady pair.old.plan side (bridge_bytes_of pair.old side) (pages_of pair.old side) }
+    ensures { pair.new ≡ with_bytes pair.old side (bytes_after (zeroed_headers pair.old.plan side) (bridge_bytes_of pair.old side)) }
 {
     let queues = side_plan(pair.plan(), side).queues;
     for queue in (0..queues).rev() {
@@ -87,8 +87,8 @@ pub fn zero_headers(pair: &mut Pair, side: Side)
 fn zero_headers_of(pair: &mut Pair, side: Side, queue: u32)
     requires fit { WindowsFit pair.old.plan side }
     requires among { queue < (side_plan_of pair.old.plan side).queues }
-    requires ready { AreHeadersOfReady pair.old.plan side queue (bytes_of pair.old side) (pages_of pair.old side) }
-    ensures { pair.new ≡ with_bytes pair.old side (bytes_after (ring_stores pair.old.plan side queue) (bytes_of pair.old side)) }
+    requires ready { AreHeadersOfReady pair.old.plan side queue (bridge_bytes_of pair.old side) (pages_of pair.old side) }
+    ensures { pair.new ≡ with_bytes pair.old side (bytes_after (ring_stores pair.old.plan side queue) (bridge_bytes_of pair.old side)) }
 {
     let ring = receiving_ring(pair.plan(), side, queue);
     let mut count = up_to_nonzero(pair, side, &ring, ring.entries());
@@ -104,7 +104,7 @@ fn zero_header(pair: &mut Pair, side: Side, ring: &Geometry, n: u32)
     requires ring { IsReceivingRing pair.old.plan side ring.now }
     requires slot { n < entries_of ring.now }
     requires promised { ArePromised (own_header pair.old.plan side ring.now.queue n) (bytes_of_header pair.old.plan) (pages_of pair.old side) }
-    ensures { pair.new ≡ with_bytes pair.old side (written (own_header pair.old.plan side ring.now.queue n) (replicate (bytes_of_header pair.old.plan) 0) (bytes_of pair.old side)) }
+    ensures { pair.new ≡ with_bytes pair.old side (written (own_header pair.old.plan side ring.now.queue n) (replicate (bytes_of_header pair.old.plan) 0) (bridge_bytes_of pair.old side)) }
 {
     let zeros = [0u8; 16];
     let at = header_at(pair.plan(), side, ring, n);
@@ -119,9 +119,9 @@ fn up_to_nonzero(pair: &Pair, side: Side, ring: &Geometry, count: u32) -> u32
     requires ring { IsReceivingRing pair.now.plan side ring.now }
     requires slots { count ≤ entries_of ring.now }
     ensures fewer { result ≤ count }
-    ensures zero { AreSomeZeroed pair.now.plan side ring.now.queue result count (bytes_of pair.now side) }
-    ensures nonzero { 0 < result → ¬ IsZeroed pair.now.plan side ring.now.queue (result - 1) (bytes_of pair.now side) }
-    ensures within { 0 < count → own_header pair.now.plan side ring.now.queue (count - 1) + bytes_of_header pair.now.plan ≤ length (bytes_of pair.now side) }
+    ensures zero { AreSomeZeroed pair.now.plan side ring.now.queue result count (bridge_bytes_of pair.now side) }
+    ensures nonzero { 0 < result → ¬ IsZeroed pair.now.plan side ring.now.queue (result - 1) (bridge_bytes_of pair.now side) }
+    ensures within { 0 < count → own_header pair.now.plan side ring.now.queue (count - 1) + bytes_of_header pair.now.plan ≤ length (bridge_bytes_of pair.now side) }
 {
     let few = (TOGETHER_BYTES / ring.frame_size().max(1)).max(1);
     let mut together = few;
@@ -153,8 +153,8 @@ fn up_to_nonzero_from(pair: &Pair, side: Side, ring: &Geometry, from: u32, to: u
     requires slots { to ≤ entries_of ring.now }
     ensures least { from ≤ result }
     ensures fewer { result ≤ to }
-    ensures zero { AreSomeZeroed pair.now.plan side ring.now.queue result to (bytes_of pair.now side) }
-    ensures nonzero { from < result → ¬ IsZeroed pair.now.plan side ring.now.queue (result - 1) (bytes_of pair.now side) }
+    ensures zero { AreSomeZeroed pair.now.plan side ring.now.queue result to (bridge_bytes_of pair.now side) }
+    ensures nonzero { from < result → ¬ IsZeroed pair.now.plan side ring.now.queue (result - 1) (bridge_bytes_of pair.now side) }
 {
     let last = header_at(pair.plan(), side, ring, to - 1);
     let slot = u64::from(ring.frame_size());
@@ -175,8 +175,8 @@ fn are_zero(pair: &Pair, side: Side, ring: &Geometry, from: u32, to: u32) -> boo
     requires ring { IsReceivingRing pair.now.plan side ring.now }
     requires some { from < to }
     requires slots { to ≤ entries_of ring.now }
-    ensures zero { IsTrue result → AreSomeZeroed pair.now.plan side ring.now.queue from to (bytes_of pair.now side) }
-    ensures within { own_header pair.now.plan side ring.now.queue (to - 1) + bytes_of_header pair.now.plan ≤ length (bytes_of pair.now side) }
+    ensures zero { IsTrue result → AreSomeZeroed pair.now.plan side ring.now.queue from to (bridge_bytes_of pair.now side) }
+    ensures within { own_header pair.now.plan side ring.now.queue (to - 1) + bytes_of_header pair.now.plan ≤ length (bridge_bytes_of pair.now side) }
 {
     let plan = pair.plan();
     let first = header_at(plan, side, ring, from);
@@ -191,10 +191,10 @@ fn are_zero(pair: &Pair, side: Side, ring: &Geometry, from: u32, to: u32) -> boo
 
 // Returns whether each of this many bytes of a side's memory, `MOST` at most, is zero; `MOST` is 1,024 at most.
 fn is_zero<const MOST: usize>(pair: &Pair, side: Side, at: u64, len: usize) -> bool
-    requires within { at + len ≤ length (bytes_of pair.now side) }
+    requires within { at + len ≤ length (bridge_bytes_of pair.now side) }
     requires few { len ≤ MOST }
     requires small { MOST ≤ 1024 }
-    ensures { IsTrue result ↔ AreZero at len (bytes_of pair.now side) }
+    ensures { IsTrue result ↔ AreZero at len (bridge_bytes_of pair.now side) }
 {
     let mut bytes = [0u8; MOST];
     pair.local_read(side, at, &mut bytes[..len]);

@@ -7,7 +7,7 @@ use Rattle.std.proofs.lemmas.Grind.{common_steps}
 use Rattle.std.proofs.lemmas.List.{get_or-replicate, length-replicate, take-replicate}
 use Rattle.std.proofs.lemmas.Slice.Eq.{bytes_eq-Decides}
 use Rattle.host_memory.specs.Memory.{bytes_at}
-use Rattle.host_memory.specs.Pages.{Found, byte_on, bytes_in}
+use Rattle.host_memory.specs.Pages.{PagesFound, byte_on, memory_bytes_in}
 use Rattle.host_memory.proofs.MemoryPages.{middle, read_shown}
 
 -- this many bytes of a page
@@ -15,7 +15,7 @@ pub length-mid : (start n : ℕ) (bytes : List ℕ) → start + n ≤ length byt
 length-mid start n bytes within = grind (arith, common_steps)
 
 -- its bytes are those of the page that is there
-pub read_there : (pages : Found) (len at n : ℕ) (page : Box (List ℕ)) (bytes shown : List ℕ) → bytes_in pages len ≡ shown → at + n ≤ length shown → at % 512 + n ≤ 512
+pub read_there : (pages : PagesFound) (len at n : ℕ) (page : Box (List ℕ)) (bytes shown : List ℕ) → memory_bytes_in pages len ≡ shown → at + n ≤ length shown → at % 512 + n ≤ 512
     → Some page ≡ pages (at / 512) → bytes ≡ page.value → length bytes ≡ 512 → mid_of (at % 512) (at % 512 + n - at % 512) bytes ≡ bytes_at at n shown
 read_there pages len at n page bytes shown seen within one_page there same size =
     read_shown pages len at n (mid_of (at % 512) (at % 512 + n - at % 512) bytes) shown seen within one_page (length-mid (at % 512) n bytes (omega (arith, one_page, size)))
@@ -23,7 +23,7 @@ read_there pages len at n page bytes shown seen within one_page there same size 
     middle bytes _ (at % 512) (at % 512 + n) n k refl refl less ∙ ap (λ xs. get_or xs (at % 512 + k) 0) same ∙ ap (λ found. byte_on found (at % 512 + k)) there)
 
 -- its bytes are zeros where the page isn't there
-pub read_absent : (pages : Found) (len at n : ℕ) (shown : List ℕ) → bytes_in pages len ≡ shown → at + n ≤ length shown → at % 512 + n ≤ 512
+pub read_absent : (pages : PagesFound) (len at n : ℕ) (shown : List ℕ) → memory_bytes_in pages len ≡ shown → at + n ≤ length shown → at % 512 + n ≤ 512
     → None ≡ pages (at / 512) → replicate n 0 ≡ bytes_at at n shown
 read_absent pages len at n shown seen within one_page none =
     read_shown pages len at n (replicate n 0) shown seen within one_page (length-replicate n 0)

@@ -5,7 +5,7 @@ use Rattle.std.proofs.lemmas.Grind.{common_steps}
 use Rattle.std.proofs.lemmas.List.Elements.{Contains-get_or, Contains-append_left, Contains-push, Contains-push_cases}
 use Rattle.host_memory.specs.Inside.{IsMemory}
 use Rattle.host_memory.specs.Memory.{NoRepeats}
-use Rattle.host_memory.specs.Pages.{Found, KeepsPages}
+use Rattle.host_memory.specs.Pages.{PagesFound, KeepsPages}
 use Rattle.host_memory.specs.declared.memory.Memory.TheInside.{Inside}
 use Rattle.host_memory.proofs.MemoryPages.{IsElsewhereTheSame}
 
@@ -19,7 +19,7 @@ no_repeats_more pages page distinct new i j i<j within same =
     (cases_lt j (length pages))
 
 -- each page that was promised is there
-pub there_more : (found new : Found) (pages : List ℕ) (page : ℕ) → ((number : ℕ) → Contains pages number → IsSome (found number))
+pub there_more : (found new : PagesFound) (pages : List ℕ) (page : ℕ) → ((number : ℕ) → Contains pages number → IsSome (found number))
     → IsElsewhereTheSame found new page → IsSome (new page) → (number : ℕ) → Contains (pages ++ page ∷ []) number → IsSome (new number)
 there_more found new pages page there others put number among =
     ⊎_elim (λ same. let P : ℕ → Type 0 = λ n. IsSome (new n) in subst P (sym same) put)
@@ -27,7 +27,7 @@ there_more found new pages page there others put number among =
     (cases_eq number page)
 
 -- and each page that is there was promised
-pub among_more : (found new : Found) (pages : List ℕ) (page : ℕ) → ((number : ℕ) → IsSome (found number) → Contains pages number)
+pub among_more : (found new : PagesFound) (pages : List ℕ) (page : ℕ) → ((number : ℕ) → IsSome (found number) → Contains pages number)
     → IsElsewhereTheSame found new page → (number : ℕ) → IsSome (new number) → Contains (pages ++ page ∷ []) number
 among_more found new pages page among others number there =
     ⊎_elim (λ same. let P : ℕ → Type 0 = λ n. Contains (pages ++ page ∷ []) n in subst P (sym same) (Contains-push pages page))

@@ -5,7 +5,7 @@ use Rattle.std.proofs.lemmas.List.{same_lists}
 use Rattle.std.proofs.lemmas.Option.{slice_get-map}
 use Rattle.std.specs.Global.{Box}
 use Rattle.std.specs.List.{slice_get}
-use Rattle.host_memory.specs.Pages.{Found, Group, byte_in, byte_on, bytes_by_group, bytes_by_place, bytes_in, page_at, page_bytes, place_in}
+use Rattle.host_memory.specs.Pages.{PagesFound, Group, memory_byte_in, byte_on, bytes_by_group, bytes_by_place, memory_bytes_in, page_at, page_bytes, place_in}
 use Rattle.host_memory.proofs.MemoryPages.{byte-bytes_in, length-bytes_in}
 
 -- the bytes at a place of a group
@@ -23,7 +23,7 @@ of_page groups number =
     ∙ ap (λ group. bytes_at_place group (number % 512)) (sym (slice_get-map bytes_by_place groups (number / 512)))
 
 -- two ways to find pages, which find the same bytes at each number
-abbrev pub FindSame : Found → Found → Type 0
+abbrev pub FindSame : PagesFound → PagesFound → Type 0
 FindSame found other = (number : ℕ) → page_bytes (found number) ≡ page_bytes (other number)
 
 -- Two tables whose groups hold the same bytes, page by page, find the same bytes at each page number.
@@ -36,7 +36,7 @@ there_by_bytes None = refl
 there_by_bytes (Some page) = refl
 
 -- a page is there in both or in none
-pub there_same : (found other : Found) → FindSame found other → (number : ℕ) → is_some (found number) ≡ is_some (other number)
+pub there_same : (found other : PagesFound) → FindSame found other → (number : ℕ) → is_some (found number) ≡ is_some (other number)
 there_same found other same number = sym (there_by_bytes (found number)) ∙ ap is_some (same number) ∙ there_by_bytes (other number)
 
 abbrev byte_of : Option (List ℕ) → ℕ → ℕ
@@ -47,13 +47,13 @@ byte_by_bytes : (page : Option (Box (List ℕ))) (place : ℕ) → byte_on page 
 byte_by_bytes None place = refl
 byte_by_bytes (Some page) place = refl
 
-byte_same : (found other : Found) → FindSame found other → (address : ℕ) → byte_in found address ≡ byte_in other address
+byte_same : (found other : PagesFound) → FindSame found other → (address : ℕ) → memory_byte_in found address ≡ memory_byte_in other address
 byte_same found other same address =
     byte_by_bytes (found (address / 512)) (address % 512) ∙ ap (λ bytes. byte_of bytes (address % 512)) (same (address / 512))
     ∙ sym (byte_by_bytes (other (address / 512)) (address % 512))
 
 -- the memory's bytes are the same
-pub bytes_in-found : (found other : Found) (len : ℕ) → FindSame found other → bytes_in found len ≡ bytes_in other len
+pub bytes_in-found : (found other : PagesFound) (len : ℕ) → FindSame found other → memory_bytes_in found len ≡ memory_bytes_in other len
 bytes_in-found found other len same =
     same_lists _ _ (length-bytes_in found len ∙ sym (length-bytes_in other len))
     (λ k d h.

@@ -3,7 +3,7 @@ use Rattle.std.proofs.Common.{◌≡◌, ◌⊎◌, ℕ, ◌+◌, ◌-◌, ◌<�
 use Rattle.std.proofs.lemmas.Grind.{common_steps}
 use Rattle.std.proofs.lemmas.List.{places, same_lists, get_or-take}
 use Rattle.byteorder.specs.Endian.{little_number}
-use Rattle.host_memory.specs.Memory.{written, bytes_at, word_at}
+use Rattle.host_memory.specs.Memory.{written, bytes_at, memory_word_at}
 use Rattle.host_memory.specs.Laws.{LiesIn, StandsApart}
 
 -- After a write within the memory each address of its range has the byte that was written there.
@@ -44,7 +44,7 @@ little_number-take xs =
 
 -- A word of four bytes apart from a write is the same before and after the write.
 pub word_elsewhere : (at : ℕ) (bytes mem : List ℕ) → LiesIn at bytes mem → (from : ℕ)
-    → StandsApart from 4 at (length bytes) → word_at from (written at bytes mem) ≡ word_at from mem
+    → StandsApart from 4 at (length bytes) → memory_word_at from (written at bytes mem) ≡ memory_word_at from mem
 word_elsewhere at bytes mem h from apart =
     sym (little_number-take (drop from (written at bytes mem)))
     ∙ ap (little_number 4) (reads_elsewhere at bytes mem h from 4 apart)

@@ -1,7 +1,7 @@
 -- What a write to memory does, address by address, and which ranges are promised with others.
 use Rattle.std.specs.Prelude.{◌≡◌, ℕ, ◌+◌, ◌^◌, ◌<◌, ◌≤◌, ◌⊎◌, List, Contains, length, slice_index}
 use Rattle.byteorder.specs.Endian.{little_bytes}
-use Rattle.host_memory.specs.Memory.{ArePromised, written, bytes_at, word_at}
+use Rattle.host_memory.specs.Memory.{ArePromised, written, bytes_at, memory_word_at}
 
 -- the bytes that are written lie in the memory
 abbrev pub LiesIn : ℕ → List ℕ → List ℕ → Type 0
@@ -33,11 +33,11 @@ ReadsElsewhere = (at : ℕ) (bytes mem : List ℕ) → LiesIn at bytes mem → (
 
 -- a word is read back as it was written
 abbrev pub WordReadsBack : Type 0
-WordReadsBack = (at value : ℕ) (mem : List ℕ) → at + 4 ≤ length mem → value < 2 ^ 32 → word_at at (written at (little_bytes 4 value) mem) ≡ value
+WordReadsBack = (at value : ℕ) (mem : List ℕ) → at + 4 ≤ length mem → value < 2 ^ 32 → memory_word_at at (written at (little_bytes 4 value) mem) ≡ value
 
 -- a word elsewhere is what it was before
 abbrev pub WordElsewhere : Type 0
-WordElsewhere = (at : ℕ) (bytes mem : List ℕ) → LiesIn at bytes mem → (from : ℕ) → StandsApart from 4 at (length bytes) → word_at from (written at bytes mem) ≡ word_at from mem
+WordElsewhere = (at : ℕ) (bytes mem : List ℕ) → LiesIn at bytes mem → (from : ℕ) → StandsApart from 4 at (length bytes) → memory_word_at from (written at bytes mem) ≡ memory_word_at from mem
 
 -- a part of a range is promised with the range
 abbrev pub PartPromised : Type 0

@@ -17,8 +17,8 @@ abbrev pub bytes_at : ℕ → ℕ → List ℕ → List ℕ
 bytes_at at len mem = take len (drop at mem)
 
 -- the word of four bytes from an address on, the lowest byte first
-abbrev pub word_at : ℕ → List ℕ → ℕ
-word_at at mem = little_number 4 (drop at mem)
+abbrev pub memory_word_at : ℕ → List ℕ → ℕ
+memory_word_at at mem = little_number 4 (drop at mem)
 
 -- the number of the page that an address lies on
 abbrev pub page_of : ℕ → ℕ

@@ -7,8 +7,8 @@ use Rattle.std.specs.Global.{Box, Vec}
 use Rattle.host_memory.specs.Memory.{written}
 
 -- the page at each number
-abbrev pub Found : Type 0
-Found = ℕ → Option (Box (List ℕ))
+abbrev pub PagesFound : Type 0
+PagesFound = ℕ → Option (Box (List ℕ))
 
 -- the byte at a place of a page
 abbrev pub byte_on : Option (Box (List ℕ)) → ℕ → ℕ
@@ -16,12 +16,12 @@ byte_on None place = 0
 byte_on (Some page) place = slice_index page.value place
 
 -- the byte at an address
-abbrev pub byte_in : Found → ℕ → ℕ
-byte_in found address = byte_on (found (address / 512)) (address % 512)
+abbrev pub memory_byte_in : PagesFound → ℕ → ℕ
+memory_byte_in found address = byte_on (found (address / 512)) (address % 512)
 
 -- all bytes of a memory of this length
-abbrev pub bytes_in : Found → ℕ → List ℕ
-bytes_in found len = map (byte_in found) (range_with_len 0 len)
+abbrev pub memory_bytes_in : PagesFound → ℕ → List ℕ
+memory_bytes_in found len = map (memory_byte_in found) (range_with_len 0 len)
 
 -- the pages of a group, by their places
 abbrev pub Group : Type 0
@@ -33,7 +33,7 @@ place_in None place = None
 place_in (Some group) place = slice_index_or group.items place None
 
 -- the page of this number
-abbrev pub page_at : List Group → Found
+abbrev pub page_at : List Group → PagesFound
 page_at groups number = place_in (slice_get groups (number / 512)) (number % 512)
 
 -- the same pages
@@ -44,8 +44,8 @@ abbrev pub KeepsPlaces : List (Option (Box (List ℕ))) → List (Option (Box (L
 KeepsPlaces old new = (place : ℕ) → slice_index_or new place None ≡ slice_index_or old place None
 
 -- a page with these bytes from a place on
-abbrev pub with_bytes : ℕ → List ℕ → Box (List ℕ) → Box (List ℕ)
-with_bytes start bytes page = with_value page (written start bytes page.value)
+abbrev pub page_with_bytes : ℕ → List ℕ → Box (List ℕ) → Box (List ℕ)
+page_with_bytes start bytes page = with_value page (written start bytes page.value)
 
 -- the bytes of a page that is there
 abbrev pub page_bytes : Option (Box (List ℕ)) → Option (List ℕ)

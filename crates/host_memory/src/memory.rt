@@ -2,7 +2,7 @@
 
 ghost use Rattle.std.specs.Prelude.{◌≡◌, ◌↔◌, ℕ, ◌+◌, ◌-◌, ◌%◌, ◌<◌, ◌≤◌, ◌^◌, ◌⊎◌, [], length, replicate, Contains, IfOk, IsOk, IsTrue, OnOk, OnErr};
 ghost use Rattle.byteorder.specs.Endian.{little_bytes};
-ghost use Rattle.host_memory.specs.Memory.{AreAbsent, AreNotAmong, ArePromised, AreSameBetween, AreSameOnPage, AreZero, NoRepeats, Touches, bytes_at, page_of, word_at, written};
+ghost use Rattle.host_memory.specs.Memory.{AreAbsent, AreNotAmong, ArePromised, AreSameBetween, AreSameOnPage, AreZero, NoRepeats, Touches, bytes_at, page_of, memory_word_at, written};
 
 use crate::pages::Pages;
 use byteorder::{ByteOrder, LittleEndian};
@@ -160,7 +160,7 @@ impl Memory {
     #[inline]
     pub fn u32_at(&self, at: u64) -> u32
         requires { at + 4 ≤ length self.now.bytes }
-        ensures { result ≡ word_at at self.now.bytes }
+        ensures { result ≡ memory_word_at at self.now.bytes }
     {
         let mut word = [0u8; 4];
         self.read(at, &mut word);

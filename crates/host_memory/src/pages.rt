@@ -1,7 +1,7 @@
 //! The pages of a memory, in a table of two levels.
 
 ghost use Rattle.std.specs.Prelude.{◌≡◌, ◌≢◌, ℕ, ◌+◌, ◌≤◌, length, map, option_copied, option_map, replicate, IfOk, IfSome, IsSome, IsSomeAnd, OnErr, OnOk};
-ghost use Rattle.host_memory.specs.Pages.{KeepsPages, KeepsPlaces, bytes_by_group, bytes_by_place, page_at, page_bytes, with_bytes};
+ghost use Rattle.host_memory.specs.Pages.{KeepsPages, KeepsPlaces, bytes_by_group, bytes_by_place, page_at, page_bytes, page_with_bytes};
 
 use std::alloc::{AllocError, Global};
 
@@ -58,7 +58,7 @@ impl Pages {
     pub fn write(&mut self, number: u64, start: usize, bytes: &[u8])
         requires there { IsSome (page_at self.old.groups.items number) }
         requires fits { start + length bytes.now ≤ 512 }
-        ensures page { page_at self.new.groups.items number ≡ option_map (with_bytes start bytes.now) (page_at self.old.groups.items number) }
+        ensures page { page_at self.new.groups.items number ≡ option_map (page_with_bytes start bytes.now) (page_at self.old.groups.items number) }
         ensures others { (other : ℕ) → other ≢ number → page_at self.new.groups.items other ≡ page_at self.old.groups.items other }
         ensures whole { IfSome (page_at self.old.groups.items number) (λ page. length page.value ≡ 512) }
     {

@@ -1,6 +1,6 @@
 -- What the adapters of the standard library's readers and writers hold.
 use Rattle.std.specs.Prelude.{◌≡◌, ℕ, Result, MatchResult}
-use Rattle.io_edges.specs.Plan.{one_more}
+use Rattle.io_edges.specs.Plan.{fault_one_more}
 use Rattle.io_edges.specs.declared.std_streams.StdStream.{StdStream}
 
 -- the reader or writer
@@ -13,4 +13,4 @@ faults_of stream = stream.faults
 
 -- An error is counted, up to the last value of a u64, and nothing else is.
 abbrev pub CountsErrors : {T E : Type 0} → ℕ → ℕ → Result T E → Type 0
-CountsErrors before now result = MatchResult result (λ _. now ≡ before) (λ _. now ≡ one_more before)
+CountsErrors before now result = MatchResult result (λ _. now ≡ before) (λ _. now ≡ fault_one_more before)

@@ -11,9 +11,9 @@ use Rattle.lane_model.specs.declared.Phase.TheVariants.{Copying}
 use Rattle.lane_laws.proofs.Facade.{copy_sees}
 use Rattle.posted_queue.specs.Flight.{Flight}
 use Rattle.step_kinds.specs.declared.lanes.Begun.TheVariants.{Ok as Began, Busy, NoRoom}
-use Rattle.lane_core.specs.Calls.{down_answer, has_room, is_empty_list}
+use Rattle.lane_core.specs.Calls.{core_down_answer, has_room, is_empty_list}
 use Rattle.lane_core.specs.Parts.{entry_seen}
-use Rattle.lane_core.specs.LaneView.{Buffers, IsKept, lane_seen}
+use Rattle.lane_core.specs.LaneView.{Buffers, IsCoreKept, lane_seen}
 use Rattle.lane_core.specs.declared.entry.Entry.{Entry}
 use Rattle.lane_core.specs.declared.write.PostedWrite.{PostedWrite}
 use Rattle.lane_core.specs.declared.lane.Lane.TheInside.{Inside}
@@ -25,7 +25,7 @@ free_seen l number head free begun at counted =
     ∙ ap (λ h. free_entries l.entries h l.index_word) (at ∙ ap (λ n. n % l.entries) (begun ∙ sym (length-map l.sent.items entry_seen)))
 
 -- where writes are left to post, no entry is begun
-pub answers_busy : (lane : Lane) (count : ℕ) → count ≡ length lane.todo → eqb count 0 ≡ false → down_answer lane ≡ Busy
+pub answers_busy : (lane : Lane) (count : ℕ) → count ≡ length lane.todo → eqb count 0 ≡ false → core_down_answer lane ≡ Busy
 answers_busy lane count all some = cond-false (is_empty_list lane.todo) (has_room lane) Busy (not_empty lane.todo (subst (λ (n : ℕ). eqb n 0 ≡ false) all some))
   where
     not_empty : (marks : List Write) → eqb (length marks) 0 ≡ false → is_empty_list marks ≡ false
@@ -33,18 +33,18 @@ answers_busy lane count all some = cond-false (is_empty_list lane.todo) (has_roo
     not_empty (mark ∷ marks) h = refl
 
 -- where none is left, an entry is begun if and only if the ring has room
-no_writes : (lane : Lane) → lane.todo ≡ [] → down_answer lane ≡ has_room lane
+no_writes : (lane : Lane) → lane.todo ≡ [] → core_down_answer lane ≡ has_room lane
 no_writes lane none = cond-true (is_empty_list lane.todo) (has_room lane) Busy (ap is_empty_list none)
 
 -- a ring with no free entry has no room
-pub answers_no_room : (lane : Lane) (head : ℕ) → lane.todo ≡ [] → head ≡ length lane.sent % lane.entries → free_in lane ≡ 0 → down_answer lane ≡ NoRoom head lane.index_word
+pub answers_no_room : (lane : Lane) (head : ℕ) → lane.todo ≡ [] → head ≡ length lane.sent % lane.entries → free_in lane ≡ 0 → core_down_answer lane ≡ NoRoom head lane.index_word
 answers_no_room lane head none at full =
     no_writes lane none
     ∙ cond-true (eqb (free_in lane) 0) _ _ (ap (λ n. eqb n 0) full)
     ∙ ap (λ n. NoRoom n lane.index_word) (sym at)
 
 -- a ring with a free entry takes one more
-pub answers_begun : (lane : Lane) (number : ℕ) → lane.todo ≡ [] → number ≡ length lane.sent → (free_in lane ≡ 0 → ⊥) → down_answer lane ≡ Began number
+pub answers_begun : (lane : Lane) (number : ℕ) → lane.todo ≡ [] → number ≡ length lane.sent → (free_in lane ≡ 0 → ⊥) → core_down_answer lane ≡ Began number
 answers_begun lane number none begun room =
     no_writes lane none
     ∙ cond-false (eqb (free_in lane) 0) _ _ (ne_eqb (free_in lane) 0 room)
@@ -68,7 +68,7 @@ begun_lane l entry sent todo number begun none pushed filled =
     (filled ∙ ap (λ marks. marks ++ writes_of number (entry_seen entry)) none ∙ ap (λ n. writes_of n (entry_seen entry)) (begun ∙ sym (length-map l.sent.items entry_seen)))
 
 -- the entry that is copied stays what it was
-pub buffers_stay : (l : Inside) (entry : Entry) (sent : List Entry) → sent ≡ l.sent.items ++ entry ∷ [] → IsKept l
+pub buffers_stay : (l : Inside) (entry : Entry) (sent : List Entry) → sent ≡ l.sent.items ++ entry ∷ [] → IsCoreKept l
     → Buffers l.phase l.part (bytes_of (get_or (map entry_seen sent) l.got model.GoesDown)) l.copied.items (vec_capacity l.copied)
 buffers_stay l entry sent pushed kept = record {
   items = λ copying. subst (λ (e : model.Entry). l.copied.items ≡ take (chunk_size * l.part) (bytes_of e)) (sym (same copying)) (kept.buffers.items copying);

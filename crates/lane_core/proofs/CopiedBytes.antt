@@ -3,15 +3,15 @@ use Rattle.std.proofs.Common.{refl, ◌-◌, vec_capacity, length-take, ◌≡�
 use Rattle.std.proofs.lemmas.Bool.{cases_lt, cond-true, cond-false, false≢true}
 use Rattle.std.proofs.lemmas.List.{take-take, drop-take, take-append-drop, take_all}
 use Rattle.lane_model.specs.Lane as model
-use Rattle.lane_model.specs.Lane.{Lane, bytes_of, chunk_of, chunk_size, copies_of, entry_of, slot_of}
+use Rattle.lane_model.specs.Lane.{Lane, bytes_of, chunk_of, chunk_size, copies_of, entry_of, lane_slot_of}
 use Rattle.lane_model.specs.Steps.{more_to_copy}
 use Rattle.lane_model.specs.declared.Phase.{Phase}
 use Rattle.lane_model.specs.declared.Phase.TheVariants.{Idle, Copying, Copied, Cleared}
 use Rattle.lane_laws.proofs.Facade.{copy_sees}
-use Rattle.lane_core.specs.Calls.{after_copying, copy_answer, is_copying}
+use Rattle.lane_core.specs.Calls.{after_copying, core_copy_answer, is_copying}
 use Rattle.lane_core.specs.Parts.{place_seen}
 use Rattle.step_kinds.specs.declared.lanes.LaneCopy.TheVariants.{Whole, OutOfTurn}
-use Rattle.lane_core.specs.LaneView.{IsKept, lane_seen}
+use Rattle.lane_core.specs.LaneView.{IsCoreKept, lane_seen}
 use Rattle.lane_core.specs.declared.lane.Lane.TheInside.{Inside}
 use Rattle.lane_core.specs.declared.slot.Slot.{Slot}
 
@@ -34,7 +34,7 @@ pub record CopiesFrom (l : Inside) (place : Slot) (buffer : List ℕ) : Type 0 w
   pub small : length (bytes_at l) ≤ 65536
 
 -- A copying receiver that appends the next chunk of its slot has copied its entry's bytes up to that chunk's end.
-pub copies_from : (l : Inside) (place : Slot) (copied : List ℕ) → slot_of (lane_seen l) l.got ≡ place_seen place → l.phase ≡ Copying → IsKept l
+pub copies_from : (l : Inside) (place : Slot) (copied : List ℕ) → lane_slot_of (lane_seen l) l.got ≡ place_seen place → l.phase ≡ Copying → IsCoreKept l
     → copied ≡ l.copied.items ++ chunk_of (take place.len place.payload.items) l.part → CopiesFrom l place copied
 copies_from l place copied here copying kept now =
     let lane = lane_seen l in
@@ -80,14 +80,14 @@ is_whole l place buffer bytes more copies same when none =
     record { bytes_are = entry; small = omega (arith, ap length entry, copies.small); last = none_left (lane_seen l) all }
 
 -- The model's lane answers a copy with the whole frame where a copying receiver has the whole of its entry.
-pub answer_whole : (l : Inside) (bytes : List ℕ) → l.phase ≡ Copying → IsWhole l bytes → Whole l.got bytes ≡ copy_answer (lane_seen l)
+pub answer_whole : (l : Inside) (bytes : List ℕ) → l.phase ≡ Copying → IsWhole l bytes → Whole l.got bytes ≡ core_copy_answer (lane_seen l)
 answer_whole l bytes copying whole =
     ap (Whole l.got) whole.bytes_are
     ∙ sym (cond-true (is_copying l.phase) _ OutOfTurn (ap is_copying copying) ∙ cond-false (more_to_copy (lane_seen l)) _ _ whole.last)
 
 -- a receiver that copies nothing answers so, and stays as it is
 pub record StaysOutOfTurn (lane : Lane) : Type 0 where
-  pub answer : copy_answer lane ≡ OutOfTurn
+  pub answer : core_copy_answer lane ≡ OutOfTurn
   pub after : after_copying lane ≡ lane
 
 -- A copy is out of turn where the receiver is not copying.
@@ -110,7 +110,7 @@ pub record CanCopy (l : Inside) (place : Slot) : Type 0 where
   pub room : length l.copied.items + (place.len - chunk_size * l.part) ≤ vec_capacity l.copied
 
 -- A copying receiver can copy the next part of the frame in its slot.
-pub can_copy : (l : Inside) (place : Slot) → slot_of (lane_seen l) l.got ≡ place_seen place → l.phase ≡ Copying → IsKept l → CanCopy l place
+pub can_copy : (l : Inside) (place : Slot) → lane_slot_of (lane_seen l) l.got ≡ place_seen place → l.phase ≡ Copying → IsCoreKept l → CanCopy l place
 can_copy l place here copying kept =
     let sees = copy_sees (lane_seen l) copying kept.law in
     let len : place.len ≡ length (bytes_at l) = sym (ap (λ (p : model.Slot). p.len) here) ∙ sees.1.len in

@@ -4,7 +4,7 @@ use Rattle.lane_model.specs.Lane.{Entry, Lane}
 use Rattle.lane_model.specs.Steps.{after_landing}
 use Rattle.lane_model.specs.declared.Write.{Write}
 use Rattle.lane_model.specs.declared.Write.TheVariants.{Data, Flag, Bell}
-use Rattle.lane_core.specs.Calls.{LaneValue, after_land, after_found}
+use Rattle.lane_core.specs.Calls.{LaneValue, core_after_land, after_found}
 
 -- a choice between two lanes that have the same entries
 sent-either : (b : Bool) (lane other : Lane) (sent : List Entry) → lane.sent ≡ sent → other.sent ≡ sent → (cond b lane other).sent ≡ sent
@@ -17,7 +17,7 @@ sent-landing lane (Flag n) rest = refl
 sent-landing lane Bell rest = refl
 
 -- A landing at any place in flight leaves the entries that the sender began as they were.
-pub sent-land : (value : LaneValue) (place : ℕ) → (after_land value place).sent ≡ value.lane.sent
+pub sent-land : (value : LaneValue) (place : ℕ) → (core_after_land value place).sent ≡ value.lane.sent
 sent-land value place = go _
   where
     go : (found : Option Write) → (after_found value place found).sent ≡ value.lane.sent

@@ -11,10 +11,10 @@ use Rattle.lane_core.specs.declared.entry.Entry.{Entry}
 use Rattle.lane_core.specs.declared.slot.Slot.{Slot as Position}
 use Rattle.lane_core.specs.declared.write.PostedWrite.{PostedWrite}
 use Rattle.lane_core.specs.declared.write.IndexWrite.{IndexWrite}
-use Rattle.lane_core.specs.Fresh.{fresh_lane, zeroed_slot}
+use Rattle.lane_core.specs.Fresh.{core_fresh_lane, zeroed_slot}
 
 -- The law of the ring holds of a lane at the start of its session, with a zeroed ring of at least two slots.
-pub fresh_law : (entries largest : ℕ) → 2 ≤ entries → HoldsRingLaw (fresh_lane entries largest)
+pub fresh_law : (entries largest : ℕ) → 2 ≤ entries → HoldsRingLaw (core_fresh_lane entries largest)
 fresh_law entries largest two = new_holds entries largest (entries - 1) (zeroed_slot largest) two (length-replicate largest 0) refl (last_free entries two)
   where
     last_free : (n : ℕ) → 2 ≤ n → n - 1 ≡ (0 + n - 1) % n
@@ -26,7 +26,7 @@ fresh_law entries largest two = new_holds entries largest (entries - 1) (zeroed_
 -- the law holds of the parts that a lane starts with
 pub started : (entries largest : ℕ) (sent : List Entry) (todo : List Write) (flight : Flight PostedWrite) (returning : Flight IndexWrite) (ring : List Position) → 2 ≤ entries
     → sent ≡ [] → todo ≡ [] → flight ≡ nothing_in_flight → returning ≡ nothing_in_flight → map place_seen ring ≡ replicate entries (zeroed_slot largest)
-    → HoldsRingLaw (record (fresh_lane entries largest) {
+    → HoldsRingLaw (record (core_fresh_lane entries largest) {
       sent = map entry_seen sent;
       todo = todo;
       flight = map (λ (w : PostedWrite). w.mark) flight.writes;
@@ -34,16 +34,16 @@ pub started : (entries largest : ℕ) (sent : List Entry) (todo : List Write) (f
       ring = map place_seen ring;
     })
 started entries largest sent todo flight returning ring two no_sent no_todo no_flight no_returning zeroed =
-    let at_ring = subst (λ (places : List Slot). HoldsRingLaw (record (fresh_lane entries largest) { ring = places })) (sym zeroed) (fresh_law entries largest two) in
-    let at_returning = subst (λ (f : Flight IndexWrite). HoldsRingLaw (record (fresh_lane entries largest) { ring = map place_seen ring; returning = map (λ (w : IndexWrite). w.number) f.writes })) (sym no_returning) at_ring in
+    let at_ring = subst (λ (places : List Slot). HoldsRingLaw (record (core_fresh_lane entries largest) { ring = places })) (sym zeroed) (fresh_law entries largest two) in
+    let at_returning = subst (λ (f : Flight IndexWrite). HoldsRingLaw (record (core_fresh_lane entries largest) { ring = map place_seen ring; returning = map (λ (w : IndexWrite). w.number) f.writes })) (sym no_returning) at_ring in
     let at_flight =
     subst
-    (λ (f : Flight PostedWrite). HoldsRingLaw (record (fresh_lane entries largest) { ring = map place_seen ring; returning = map (λ (w : IndexWrite). w.number) returning.writes; flight = map (λ (w : PostedWrite). w.mark) f.writes }))
+    (λ (f : Flight PostedWrite). HoldsRingLaw (record (core_fresh_lane entries largest) { ring = map place_seen ring; returning = map (λ (w : IndexWrite). w.number) returning.writes; flight = map (λ (w : PostedWrite). w.mark) f.writes }))
     (sym no_flight) at_returning in
     let at_todo =
     subst
-    (λ (marks : List Write). HoldsRingLaw (record (fresh_lane entries largest) { ring = map place_seen ring; returning = map (λ (w : IndexWrite). w.number) returning.writes; flight = map (λ (w : PostedWrite). w.mark) flight.writes; todo = marks }))
+    (λ (marks : List Write). HoldsRingLaw (record (core_fresh_lane entries largest) { ring = map place_seen ring; returning = map (λ (w : IndexWrite). w.number) returning.writes; flight = map (λ (w : PostedWrite). w.mark) flight.writes; todo = marks }))
     (sym no_todo) at_flight in
     subst
-    (λ (es : List Entry). HoldsRingLaw (record (fresh_lane entries largest) { ring = map place_seen ring; returning = map (λ (w : IndexWrite). w.number) returning.writes; flight = map (λ (w : PostedWrite). w.mark) flight.writes; todo = todo; sent = map entry_seen es }))
+    (λ (es : List Entry). HoldsRingLaw (record (core_fresh_lane entries largest) { ring = map place_seen ring; returning = map (λ (w : IndexWrite). w.number) returning.writes; flight = map (λ (w : PostedWrite). w.mark) flight.writes; todo = todo; sent = map entry_seen es }))
     (sym no_sent) at_todo

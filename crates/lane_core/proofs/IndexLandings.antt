@@ -7,11 +7,11 @@ use Rattle.lane_model.specs.Law.{HoldsRingLaw}
 use Rattle.lane_model.specs.Steps.{after_index}
 use Rattle.lane_laws.proofs.Facade.{index_is_next, index_keeps}
 use Rattle.posted_queue.specs.Flight.{Flight}
-use Rattle.posted_queue.specs.Landing.{land_answer as queue_answer, after_landing as queue_after}
+use Rattle.posted_queue.specs.Landing.{land_answer as queue_answer, flight_after_landing as queue_after}
 use Rattle.posted_queue.specs.declared.LandAnswer.TheVariants.{Landed as QueueLanded, Blocked as QueueBlocked, Nothing as QueueNothing}
 use Rattle.order_rules.specs.Order.{Order, may_land}
 use Rattle.step_kinds.specs.declared.steps.Label.TheVariants.{Index}
-use Rattle.lane_core.specs.Calls.{LaneValue, with_lane, index_order, may_land_index, land_index_answer, index_found, after_land_index, after_index_found}
+use Rattle.lane_core.specs.Calls.{LaneValue, core_with_lane, index_order, may_land_index, land_index_answer, index_found, after_land_index, after_index_found}
 use Rattle.lane_core.specs.LaneView.{lane_seen, value_seen}
 use Rattle.lane_core.specs.declared.answers.LaneLand.{LaneLand}
 use Rattle.lane_core.specs.declared.answers.LaneLand.TheVariants.{Landed, Blocked, Nothing}
@@ -112,6 +112,6 @@ unmoved_answer {place = place} {answer = answer} still seen = subst (λ (value :
 
 -- If no index write landed, the lane that contracts see is the model's after the landing.
 pub unmoved_after : {l : Inside} {place : ℕ} {returning : Flight IndexWrite} {answer : LaneLand} {value : LaneValue} → IsUnmoved l place returning answer → value_seen l ≡ value
-    → value_seen (record l { returning = returning }) ≡ with_lane value (after_land_index value.lane place)
+    → value_seen (record l { returning = returning }) ≡ core_with_lane value (after_land_index value.lane place)
 unmoved_after {l = l} {place = place} still seen =
-    rw still.same (subst (λ (value : LaneValue). value_seen l ≡ with_lane value (after_land_index value.lane place)) seen (ap (with_lane (value_seen l)) (sym still.after)))
+    rw still.same (subst (λ (value : LaneValue). value_seen l ≡ core_with_lane value (after_land_index value.lane place)) seen (ap (core_with_lane (value_seen l)) (sym still.after)))

@@ -15,13 +15,13 @@ use Rattle.lane_model.specs.declared.Write.TheVariants.{Data, Flag, Bell}
 use Rattle.lane_laws.proofs.Facade.{field_among}
 use Rattle.lane_laws.proofs.Facade.{land_data_keeps, land_flag_keeps, land_bell_keeps, data_is_ahead, flag_is_next}
 use Rattle.posted_queue.specs.Flight.{Flight}
-use Rattle.posted_queue.specs.Landing.{answer_for, land_answer as queue_answer, after_landing as queue_after}
+use Rattle.posted_queue.specs.Landing.{answer_for, land_answer as queue_answer, flight_after_landing as queue_after}
 use Rattle.posted_queue.specs.declared.LandAnswer.TheVariants.{Landed as QueueLanded, Blocked as QueueBlocked, Nothing as QueueNothing}
 use Rattle.order_rules.specs.Order.{Order, relaxed, may_land}
 use Rattle.posted_queue.proofs.Facade.{may_land-past, split-at_place}
-use Rattle.lane_core.specs.Calls.{LaneValue, kind_of_mark, order_of_mark, may_land_in, land_answer, land_found, after_land, after_found, label_in}
-use Rattle.lane_core.specs.Parts.{BeginsWithin, CanStore, IsKnown, flags_landed, ring_after}
-use Rattle.lane_core.specs.LaneView.{IsKept, lane_seen, value_seen}
+use Rattle.lane_core.specs.Calls.{LaneValue, kind_of_mark, order_of_mark, may_land_in, core_land_answer, core_land_found, core_after_land, after_found, label_in}
+use Rattle.lane_core.specs.Parts.{BeginsWithin, CanStore, IsKnown, core_flags_landed, core_ring_after}
+use Rattle.lane_core.specs.LaneView.{IsCoreKept, lane_seen, value_seen}
 use Rattle.lane_core.specs.declared.answers.LaneLand.TheVariants.{Landed, Blocked, Nothing}
 use Rattle.lane_core.specs.declared.lane.Lane.TheInside.{Inside}
 use Rattle.lane_core.specs.declared.write.PostedWrite.{PostedWrite}
@@ -60,22 +60,22 @@ orders_seen is_strict (w ∷ writes) each =
 
 -- The model's lane answers that the write at a place landed, with its label, where it may land.
 pub answer_landed : (value : LaneValue) (place : ℕ) (mark : Write) → slice_get value.lane.flight place ≡ Some mark → may_land_in value place ≡ true
-    → land_answer value place ≡ Landed (label_in value.queue value.lane mark)
-answer_landed value place mark found lands = ap (land_found value place) found ∙ cond-true _ _ _ lands
+    → core_land_answer value place ≡ Landed (label_in value.queue value.lane mark)
+answer_landed value place mark found lands = ap (core_land_found value place) found ∙ cond-true _ _ _ lands
 
 -- The model's lane after a landing at a place is the one with that write landed and out of flight, where it may land.
 pub after_landed : (value : LaneValue) (place : ℕ) (mark : Write) → slice_get value.lane.flight place ≡ Some mark → may_land_in value place ≡ true
-    → after_land value place ≡ after_landing value.lane mark (remove value.lane.flight place)
+    → core_after_land value place ≡ after_landing value.lane mark (remove value.lane.flight place)
 after_landed value place mark found lands = ap (after_found value place) found ∙ cond-true _ _ _ lands
 
 -- The model's lane answers `Blocked` to a landing at a place whose write may not land.
 pub answer_blocked : (value : LaneValue) (place : ℕ) (mark : Write) → slice_get value.lane.flight place ≡ Some mark → may_land_in value place ≡ false
-    → land_answer value place ≡ Blocked
-answer_blocked value place mark found waits = ap (land_found value place) found ∙ cond-false _ _ _ waits
+    → core_land_answer value place ≡ Blocked
+answer_blocked value place mark found waits = ap (core_land_found value place) found ∙ cond-false _ _ _ waits
 
 -- The model's lane stays as it was after a landing at a place whose write may not land.
 pub after_blocked : (value : LaneValue) (place : ℕ) (mark : Write) → slice_get value.lane.flight place ≡ Some mark → may_land_in value place ≡ false
-    → after_land value place ≡ value.lane
+    → core_after_land value place ≡ value.lane
 after_blocked value place mark found waits = ap (after_found value place) found ∙ cond-false _ _ _ waits
 
 -- A lane after a landing
@@ -102,7 +102,7 @@ first_apart (y ∷ ys) x found = ap (λ z. z ∷ ys) (same_Some y x found)
 pub record Lands (lane : Lane) (place : ℕ) (mark : Write) : Type 0 where
   pub can : CanStore lane.ring lane.sent mark
   pub known : IsKnown mark (length lane.sent)
-  pub counts : lane.flagged + flags_landed mark ≤ length lane.sent
+  pub counts : lane.flagged + core_flags_landed mark ≤ length lane.sent
   pub law : HoldsRingLaw (after_landing lane mark (remove lane.flight place))
 
 -- the room of an entry's slot
@@ -173,13 +173,13 @@ lands lane is_strict place Bell found may law = elim (may_land_here is_strict la
 
 -- what a landing changes, with the ring and the count apart
 abbrev pub with_landed : Lane → List Write → Write → Lane
-with_landed lane rest mark = record lane { flight = rest; ring = ring_after lane.ring lane.sent mark; flagged = lane.flagged + flags_landed mark }
+with_landed lane rest mark = record lane { flight = rest; ring = core_ring_after lane.ring lane.sent mark; flagged = lane.flagged + core_flags_landed mark }
 
 -- A landing changes of a lane its flight, the slot that the write is for, and by flags the count of landed flags.
 pub landed_is : (lane : Lane) (rest : List Write) (mark : Write) → length lane.ring ≡ lane.entries → after_landing lane mark rest ≡ with_landed lane rest mark
 landed_is lane rest (Data n field) slots =
     ap (λ count. record lane { flight = rest; ring = set lane.ring (n % count) (with_field (get_or lane.ring (n % count) blank_slot) n (entry_of lane n) field) }) (sym slots)
-    ∙ ap (λ count. record lane { flight = rest; ring = ring_after lane.ring lane.sent (Data n field); flagged = count }) (none_more lane.flagged)
+    ∙ ap (λ count. record lane { flight = rest; ring = core_ring_after lane.ring lane.sent (Data n field); flagged = count }) (none_more lane.flagged)
   where
     none_more : (count : ℕ) → count ≡ count + 0
     none_more count = omega arith
@@ -192,19 +192,19 @@ landed_is lane rest Bell slots = ap (λ count. record lane { flight = rest; flag
 
 -- a lane whose writes in flight, ring and count are those after a landing
 pub landed_lane : (lane : Lane) (flight rest : List Write) (ring : List Slot) (flagged : ℕ) (mark : Write) → length lane.ring ≡ lane.entries → flight ≡ rest
-    → ring ≡ ring_after lane.ring lane.sent mark → flagged ≡ lane.flagged + flags_landed mark → record lane { flight = flight; ring = ring; flagged = flagged } ≡ after_landing lane mark rest
+    → ring ≡ core_ring_after lane.ring lane.sent mark → flagged ≡ lane.flagged + core_flags_landed mark → record lane { flight = flight; ring = ring; flagged = flagged } ≡ after_landing lane mark rest
 landed_lane lane flight rest ring flagged mark slots same_flight same_ring same_count =
     ap (λ (marks : List Write). record lane { flight = marks; ring = ring; flagged = flagged }) same_flight
     ∙ ap (λ (places : List Slot). record lane { flight = rest; ring = places; flagged = flagged }) same_ring
-    ∙ ap (λ (count : ℕ). record lane { flight = rest; ring = ring_after lane.ring lane.sent mark; flagged = count }) same_count
+    ∙ ap (λ (count : ℕ). record lane { flight = rest; ring = core_ring_after lane.ring lane.sent mark; flagged = count }) same_count
     ∙ sym (landed_is lane rest mark slots)
 
 -- The model's lane answers `Nothing` to a landing at a place where no write is in flight.
-pub answer_nothing : (value : LaneValue) (place : ℕ) → slice_get value.lane.flight place ≡ None → land_answer value place ≡ Nothing
-answer_nothing value place found = ap (land_found value place) found
+pub answer_nothing : (value : LaneValue) (place : ℕ) → slice_get value.lane.flight place ≡ None → core_land_answer value place ≡ Nothing
+answer_nothing value place found = ap (core_land_found value place) found
 
 -- The model's lane stays as it was after a landing at a place where no write is in flight.
-pub after_nothing : (value : LaneValue) (place : ℕ) → slice_get value.lane.flight place ≡ None → after_land value place ≡ value.lane
+pub after_nothing : (value : LaneValue) (place : ℕ) → slice_get value.lane.flight place ≡ None → core_after_land value place ≡ value.lane
 after_nothing value place found = ap (after_found value place) found
 
 -- no write lands from past the end
@@ -234,7 +234,7 @@ order_of_write w = order_of_mark w.strict w.mark
 
 -- A write that the flight lets land may land in the model's lane too, which keeps the law of the ring.
 pub has_landed : (l : Inside) (place : ℕ) (write : PostedWrite) (flight : Flight PostedWrite) → QueueLanded write ≡ queue_answer order_of_write l.flight place → flight ≡ queue_after order_of_write l.flight place
-    → IsKept l → HasLanded l place write.mark flight
+    → IsCoreKept l → HasLanded l place write.mark flight
 has_landed l place write flight answer after kept =
     let was = was_landed _ _ write answer in
     let found : slice_get (lane_seen l).flight place ≡ Some write.mark = slice_get-map (λ (w : PostedWrite). w.mark) l.flight.writes place ∙ ap (option_map (λ (w : PostedWrite). w.mark)) was.0 in
@@ -252,7 +252,7 @@ has_landed l place write flight answer after kept =
 
 -- and where it answers that a write is blocked
 pub is_held_back : (l : Inside) (place : ℕ) → QueueBlocked ≡ queue_answer order_of_write l.flight place → All (λ (w : PostedWrite). w.strict ≡ l.strict) l.flight.writes
-    → (land_answer (value_seen l) place ≡ Blocked) × (after_land (value_seen l) place ≡ lane_seen l)
+    → (core_land_answer (value_seen l) place ≡ Blocked) × (core_after_land (value_seen l) place ≡ lane_seen l)
 is_held_back l place answer orders =
     let was = was_blocked _ _ answer in
     let found : slice_get (lane_seen l).flight place ≡ Some was.0.mark = slice_get-map (λ (w : PostedWrite). w.mark) l.flight.writes place ∙ ap (option_map (λ (w : PostedWrite). w.mark)) was.1 in

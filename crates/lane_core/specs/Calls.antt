@@ -26,8 +26,8 @@ pub record LaneValue : Type 0 where
   pub lane : Lane
 
 -- the same with another lane
-abbrev pub with_lane : LaneValue → Lane → LaneValue
-with_lane value lane = record { queue = value.queue; is_strict = value.is_strict; lane = lane }
+abbrev pub core_with_lane : LaneValue → Lane → LaneValue
+core_with_lane value lane = record { queue = value.queue; is_strict = value.is_strict; lane = lane }
 
 -- Beginning
 
@@ -36,11 +36,11 @@ abbrev pub has_room : Lane → Begun
 has_room lane = if free_in lane == 0 then NoRoom (head_of lane.entries (length lane.sent)) lane.index_word else Began (length lane.sent)
 
 -- of a link-down entry, which fits every ring, and of a frame, whose length is tested first
-abbrev pub down_answer : Lane → Begun
-down_answer lane = if is_empty_list lane.todo then has_room lane else Busy
+abbrev pub core_down_answer : Lane → Begun
+core_down_answer lane = if is_empty_list lane.todo then has_room lane else Busy
 
-abbrev pub begin_answer : Lane → ℕ → Begun
-begin_answer lane len = if nat_lt lane.largest len then TooLong len lane.largest else down_answer lane
+abbrev pub core_begin_answer : Lane → ℕ → Begun
+core_begin_answer lane len = if nat_lt lane.largest len then TooLong len lane.largest else core_down_answer lane
 
 -- an entry is in the lane where the answer says that it was begun
 abbrev pub after_beginning : Lane → Entry → Begun → Lane
@@ -50,29 +50,29 @@ after_beginning lane entry answer = lane
 -- Posting
 
 -- the number of the entry that a write belongs to, where it has one
-abbrev pub number_of : Write → ℕ
-number_of (Data n field) = n
-number_of (Flag n) = n
-number_of Bell = 0
+abbrev pub core_number_of : Write → ℕ
+core_number_of (Data n field) = n
+core_number_of (Flag n) = n
+core_number_of Bell = 0
 
 -- the label of a write of the lane
 abbrev pub label_in : ℕ → Lane → Write → Label
-label_in queue lane mark = label_of queue (entry_of lane (number_of mark)) mark
+label_in queue lane mark = label_of queue (entry_of lane (core_number_of mark)) mark
 
 -- the label of the first of the writes that are left to post
-abbrev pub first_label : ℕ → Lane → List Write → Option Label
-first_label queue lane [] = None
-first_label queue lane (mark ∷ rest) = Some (label_in queue lane mark)
+abbrev pub core_first_label : ℕ → Lane → List Write → Option Label
+core_first_label queue lane [] = None
+core_first_label queue lane (mark ∷ rest) = Some (label_in queue lane mark)
 
-abbrev pub post_answer : LaneValue → Option Label
-post_answer value = first_label value.queue value.lane value.lane.todo
+abbrev pub core_post_answer : LaneValue → Option Label
+core_post_answer value = core_first_label value.queue value.lane value.lane.todo
 
 abbrev pub after_first_post : Lane → List Write → Lane
 after_first_post lane [] = lane
 after_first_post lane (mark ∷ rest) = after_post lane mark rest
 
-abbrev pub after_posting : Lane → Lane
-after_posting lane = after_first_post lane lane.todo
+abbrev pub core_after_posting : Lane → Lane
+core_after_posting lane = after_first_post lane lane.todo
 
 -- Landing
 
@@ -89,19 +89,19 @@ order_of_mark is_strict mark = record { kind = kind_of_mark is_strict mark; clas
 abbrev pub may_land_in : LaneValue → ℕ → Bool
 may_land_in value place = may_land (map (order_of_mark value.is_strict) value.lane.flight) place
 
-abbrev pub land_found : LaneValue → ℕ → Option Write → LaneLand
-land_found value place None = Nothing
-land_found value place (Some mark) = if may_land_in value place then Landed (label_in value.queue value.lane mark) else Blocked
+abbrev pub core_land_found : LaneValue → ℕ → Option Write → LaneLand
+core_land_found value place None = Nothing
+core_land_found value place (Some mark) = if may_land_in value place then Landed (label_in value.queue value.lane mark) else Blocked
 
-abbrev pub land_answer : LaneValue → ℕ → LaneLand
-land_answer value place = land_found value place (slice_get value.lane.flight place)
+abbrev pub core_land_answer : LaneValue → ℕ → LaneLand
+core_land_answer value place = core_land_found value place (slice_get value.lane.flight place)
 
 abbrev pub after_found : LaneValue → ℕ → Option Write → Lane
 after_found value place None = value.lane
 after_found value place (Some mark) = if may_land_in value place then after_landing value.lane mark (remove value.lane.flight place) else value.lane
 
-abbrev pub after_land : LaneValue → ℕ → Lane
-after_land value place = after_found value place (slice_get value.lane.flight place)
+abbrev pub core_after_land : LaneValue → ℕ → Lane
+core_after_land value place = after_found value place (slice_get value.lane.flight place)
 
 -- index writes are strict on every lane
 abbrev pub index_order : Order
@@ -127,22 +127,22 @@ after_land_index lane place = after_index_found lane place (slice_get lane.retur
 -- Receiving
 
 -- what a look says of an entry that has landed
-abbrev pub look_at : ℕ → Entry → LaneLook
-look_at n (Carries bytes left) = Ready n (length bytes)
-look_at n GoesDown = PeerDown
+abbrev pub core_look_at : ℕ → Entry → LaneLook
+core_look_at n (Carries bytes left) = Ready n (length bytes)
+core_look_at n GoesDown = PeerDown
 
-abbrev pub look_answer : Lane → LaneLook
-look_answer lane =
+abbrev pub core_look_answer : Lane → LaneLook
+core_look_answer lane =
     if is_idle lane.phase
-    then (if lane.flagged == lane.got then Empty else look_at lane.got (entry_of lane lane.got))
+    then (if lane.flagged == lane.got then Empty else core_look_at lane.got (entry_of lane lane.got))
     else LookOutOfTurn
 
 abbrev pub after_looking : Lane → LaneLook → Lane
 after_looking lane (Ready n len) = after_look lane
 after_looking lane answer = lane
 
-abbrev pub copy_answer : Lane → LaneCopy
-copy_answer lane =
+abbrev pub core_copy_answer : Lane → LaneCopy
+core_copy_answer lane =
     if is_copying lane.phase
     then (if more_to_copy lane then Part lane.got lane.part else Whole lane.got (bytes_of (entry_of lane lane.got)))
     else CopyOutOfTurn
@@ -150,14 +150,14 @@ copy_answer lane =
 abbrev pub after_copying : Lane → Lane
 after_copying lane = if is_copying lane.phase then after_copy lane else lane
 
-abbrev pub clear_answer : Lane → Option ℕ
-clear_answer lane = if is_copied lane.phase then Some lane.cleared else None
+abbrev pub core_clear_answer : Lane → Option ℕ
+core_clear_answer lane = if is_copied lane.phase then Some lane.cleared else None
 
 abbrev pub after_clearing : Lane → Lane
 after_clearing lane = if is_copied lane.phase then after_clear lane else lane
 
-abbrev pub ack_answer : Lane → Option ℕ
-ack_answer lane = if is_cleared lane.phase then Some lane.acked else None
+abbrev pub core_ack_answer : Lane → Option ℕ
+core_ack_answer lane = if is_cleared lane.phase then Some lane.acked else None
 
 abbrev pub after_acking : Lane → Lane
 after_acking lane = if is_cleared lane.phase then after_ack lane else lane

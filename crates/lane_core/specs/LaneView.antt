@@ -55,7 +55,7 @@ pub record SendingStands (begun largest : ℕ) (strict : Bool) (left : ℕ) (fli
   pub orders : All (λ (write : PostedWrite). write.strict ≡ strict) flight.writes
   pub room : left ≤ flight.spare
 
-pub record IsKept (l : Inside) : Type 0 where
+pub record IsCoreKept (l : Inside) : Type 0 where
   pub law : HoldsRingLaw (lane_seen l)
   pub sending : SendingStands (length l.sent.items) l.largest l.strict (length l.todo.items) l.flight
   pub index_room : index_room l.phase ≤ l.returning.spare

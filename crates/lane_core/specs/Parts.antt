@@ -24,33 +24,33 @@ BeginsWithin entry Length = Unit {0}
 BeginsWithin entry Version = Unit {0}
 
 -- the entry of a number, and its slot in a ring
-abbrev pub entry_in : List model.Entry → ℕ → model.Entry
-entry_in sent n = slice_index_or sent n model.GoesDown
+abbrev pub core_entry_in : List model.Entry → ℕ → model.Entry
+core_entry_in sent n = slice_index_or sent n model.GoesDown
 
-abbrev pub place_in : List model.Slot → ℕ → model.Slot
-place_in ring n = slice_index_or ring (n % length ring) blank_slot
+abbrev pub core_place_in : List model.Slot → ℕ → model.Slot
+core_place_in ring n = slice_index_or ring (n % length ring) blank_slot
 
 -- the ring with other flags in the slot of entry n
 abbrev pub with_flags_at : List model.Slot → ℕ → ℕ → List model.Slot
-with_flags_at ring n flags = slice_set ring (n % length ring) (with_flags (place_in ring n) flags)
+with_flags_at ring n flags = slice_set ring (n % length ring) (with_flags (core_place_in ring n) flags)
 
 -- a write finds its slot and its entry
 abbrev pub CanStore : List model.Slot → List model.Entry → Write → Type 0
 CanStore ring sent (Data n field) =
-    (0 < length ring) × (n < length sent) × BeginsWithin (entry_in sent n) field × (length (bytes_of (entry_in sent n)) ≤ length (place_in ring n).payload)
+    (0 < length ring) × (n < length sent) × BeginsWithin (core_entry_in sent n) field × (length (bytes_of (core_entry_in sent n)) ≤ length (core_place_in ring n).payload)
 CanStore ring sent (Flag n) = (0 < length ring) × (n < length sent)
 CanStore ring sent Bell = Unit {0}
 
 -- the ring after a write has landed in it
-abbrev pub ring_after : List model.Slot → List model.Entry → Write → List model.Slot
-ring_after ring sent (Data n field) = slice_set ring (n % length ring) (with_field (place_in ring n) n (entry_in sent n) field)
-ring_after ring sent (Flag n) = with_flags_at ring n (flags_of (entry_in sent n))
-ring_after ring sent Bell = ring
+abbrev pub core_ring_after : List model.Slot → List model.Entry → Write → List model.Slot
+core_ring_after ring sent (Data n field) = slice_set ring (n % length ring) (with_field (core_place_in ring n) n (core_entry_in sent n) field)
+core_ring_after ring sent (Flag n) = with_flags_at ring n (flags_of (core_entry_in sent n))
+core_ring_after ring sent Bell = ring
 
 -- how many entries have their flags landed by a write
-abbrev pub flags_landed : Write → ℕ
-flags_landed (Flag n) = 1
-flags_landed mark = 0
+abbrev pub core_flags_landed : Write → ℕ
+core_flags_landed (Flag n) = 1
+core_flags_landed mark = 0
 
 -- the entry whose flags a write is has to be known for its label
 abbrev pub IsKnown : Write → ℕ → Type 0

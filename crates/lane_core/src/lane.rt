@@ -52,7 +52,7 @@ pub struct Lane {
 }
 
 impl Lane {
-    ghost use Rattle.lane_core.specs.Calls.{with_lane, begin_answer, down_answer, after_beginning, post_answer, after_posting, land_answer, after_land, land_index_answer, after_land_index, look_answer, after_looking, copy_answer, after_copying, clear_answer, after_clearing, ack_answer, after_acking};
+    ghost use Rattle.lane_core.specs.Calls.{core_with_lane, core_begin_answer, core_down_answer, after_beginning, core_post_answer, core_after_posting, core_land_answer, core_after_land, land_index_answer, after_land_index, core_look_answer, after_looking, core_copy_answer, after_copying, core_clear_answer, after_clearing, core_ack_answer, after_acking};
     ghost use Rattle.lane_core.specs.Fresh.{fresh_value};
 
     /// Returns a lane at the start of its session: nothing was begun, and the index word says that all entries are free
@@ -122,10 +122,10 @@ impl Lane {
         requires some_bytes { 0 < length frame }
         requires open { IsOpen self.old.lane }
         requires few { length self.old.lane.sent < 2 ^ 46 }
-        ensures answer { IfOk result (λ begun. begun ≡ begin_answer self.old.lane (length frame)) }
-        ensures after { IfOk result (λ begun. self.new ≡ with_lane self.old (after_beginning self.old.lane (Carries frame 0) begun)) }
+        ensures answer { IfOk result (λ begun. begun ≡ core_begin_answer self.old.lane (length frame)) }
+        ensures after { IfOk result (λ begun. self.new ≡ core_with_lane self.old (after_beginning self.old.lane (Carries frame 0) begun)) }
         ensures err { OnErr result (self.new ≡ self.old) }
-        ensures wants { OnErr result (begin_answer self.old.lane (length frame) ≡ Began (length self.old.lane.sent)) }
+        ensures wants { OnErr result (core_begin_answer self.old.lane (length frame) ≡ Began (length self.old.lane.sent)) }
         ensures law { HoldsRingLaw self.new.lane }
     {
         if frame.len() > self.largest {
@@ -152,10 +152,10 @@ impl Lane {
     pub fn down(&mut self) -> Result<Begun, AllocError>
         requires open { IsOpen self.old.lane }
         requires few { length self.old.lane.sent < 2 ^ 46 }
-        ensures answer { IfOk result (λ begun. begun ≡ down_answer self.old.lane) }
-        ensures after { IfOk result (λ begun. self.new ≡ with_lane self.old (after_beginning self.old.lane GoesDown begun)) }
+        ensures answer { IfOk result (λ begun. begun ≡ core_down_answer self.old.lane) }
+        ensures after { IfOk result (λ begun. self.new ≡ core_with_lane self.old (after_beginning self.old.lane GoesDown begun)) }
         ensures err { OnErr result (self.new ≡ self.old) }
-        ensures wants { OnErr result (down_answer self.old.lane ≡ Began (length self.old.lane.sent)) }
+        ensures wants { OnErr result (core_down_answer self.old.lane ≡ Began (length self.old.lane.sent)) }
         ensures law { HoldsRingLaw self.new.lane }
     {
         self.begin_entry(Entry::GoesDown)
@@ -166,10 +166,10 @@ impl Lane {
         requires fits { length (bytes_of (entry_seen entry)) ≤ self.old.lane.largest }
         requires open { IsOpen self.old.lane }
         requires few { length self.old.lane.sent < 2 ^ 46 }
-        ensures answer { IfOk result (λ begun. begun ≡ down_answer self.old.lane) }
-        ensures after { IfOk result (λ begun. self.new ≡ with_lane self.old (after_beginning self.old.lane (entry_seen entry) begun)) }
+        ensures answer { IfOk result (λ begun. begun ≡ core_down_answer self.old.lane) }
+        ensures after { IfOk result (λ begun. self.new ≡ core_with_lane self.old (after_beginning self.old.lane (entry_seen entry) begun)) }
         ensures err { OnErr result (self.new ≡ self.old) }
-        ensures wants { OnErr result (down_answer self.old.lane ≡ Began (length self.old.lane.sent)) }
+        ensures wants { OnErr result (core_down_answer self.old.lane ≡ Began (length self.old.lane.sent)) }
         ensures law { HoldsRingLaw self.new.lane }
     {
         if !self.todo.is_empty() {
@@ -195,8 +195,8 @@ impl Lane {
     /// sender that a posted write went nowhere. `None` if and only if no write is left to post, and then nothing
     /// changes.
     pub fn post(&mut self) -> Option<Label>
-        ensures answer { result ≡ post_answer self.old }
-        ensures after { self.new ≡ with_lane self.old (after_posting self.old.lane) }
+        ensures answer { result ≡ core_post_answer self.old }
+        ensures after { self.new ≡ core_with_lane self.old (core_after_posting self.old.lane) }
         ensures law { HoldsRingLaw self.new.lane }
     {
         let mark = self.todo.pop_front()?;
@@ -213,8 +213,8 @@ impl Lane {
     /// [`LaneLand::Blocked`] where the write may not pass one before it: where it is strict and not at place 0 (PCI
     /// Express Base 4.0, section 2.4). Neither changes anything. What was in flight when the link was cut still lands.
     pub fn land(&mut self, place: usize) -> LaneLand
-        ensures answer { result ≡ land_answer self.old place }
-        ensures after { self.new ≡ with_lane self.old (after_land self.old place) }
+        ensures answer { result ≡ core_land_answer self.old place }
+        ensures after { self.new ≡ core_with_lane self.old (core_after_land self.old place) }
         ensures law { HoldsRingLaw self.new.lane }
     {
         match self.flight.land(place) {
@@ -235,7 +235,7 @@ impl Lane {
     /// where `place` isn't 0, since index writes are strict on every lane. Neither changes anything.
     pub fn land_index(&mut self, place: usize) -> LaneLand
         ensures answer { result ≡ land_index_answer self.old place }
-        ensures after { self.new ≡ with_lane self.old (after_land_index self.old.lane place) }
+        ensures after { self.new ≡ core_with_lane self.old (after_land_index self.old.lane place) }
         ensures law { HoldsRingLaw self.new.lane }
     {
         match self.returning.land(place) {
@@ -263,10 +263,10 @@ impl Lane {
     /// [`AllocError`] if memory runs out; only if a frame was found, and then nothing changes. Room for the frame's
     /// copies and its index write is taken here.
     pub fn look(&mut self) -> Result<LaneLook, AllocError>
-        ensures answer { IfOk result (λ look. look ≡ look_answer self.old.lane) }
-        ensures after { IfOk result (λ look. self.new ≡ with_lane self.old (after_looking self.old.lane look)) }
+        ensures answer { IfOk result (λ look. look ≡ core_look_answer self.old.lane) }
+        ensures after { IfOk result (λ look. self.new ≡ core_with_lane self.old (after_looking self.old.lane look)) }
         ensures err { OnErr result (self.new ≡ self.old) }
-        ensures wants { OnErr result (look_answer self.old.lane ≡ Ready self.old.lane.got (length (bytes_of (entry_of self.old.lane self.old.lane.got)))) }
+        ensures wants { OnErr result (core_look_answer self.old.lane ≡ Ready self.old.lane.got (length (bytes_of (entry_of self.old.lane self.old.lane.got)))) }
         ensures law { HoldsRingLaw self.new.lane }
     {
         let Phase::Idle = self.phase else {
@@ -293,8 +293,8 @@ impl Lane {
     /// answers the whole frame. [`LaneCopy::OutOfTurn`] if and only if no frame is being copied, and then nothing
     /// changes.
     pub fn copy(&mut self) -> LaneCopy
-        ensures answer { result ≡ copy_answer self.old.lane }
-        ensures after { self.new ≡ with_lane self.old (after_copying self.old.lane) }
+        ensures answer { result ≡ core_copy_answer self.old.lane }
+        ensures after { self.new ≡ core_with_lane self.old (after_copying self.old.lane) }
         ensures law { HoldsRingLaw self.new.lane }
     {
         let Phase::Copying = self.phase else {
@@ -320,8 +320,8 @@ impl Lane {
     /// next round then (`ntb_transport` clears the flags before it gives the entry back). `None` if and only if the
     /// receiver has not just copied a frame whole, and then nothing changes.
     pub fn clear(&mut self) -> Option<u64>
-        ensures answer { result ≡ clear_answer self.old.lane }
-        ensures after { self.new ≡ with_lane self.old (after_clearing self.old.lane) }
+        ensures answer { result ≡ core_clear_answer self.old.lane }
+        ensures after { self.new ≡ core_with_lane self.old (after_clearing self.old.lane) }
         ensures law { HoldsRingLaw self.new.lane }
     {
         let Phase::Copied = self.phase else {
@@ -338,8 +338,8 @@ impl Lane {
     /// only if no flags were just cleared, and then nothing changes. Once the link was cut the write is lost, and the
     /// number is answered all the same.
     pub fn ack(&mut self) -> Option<u64>
-        ensures answer { result ≡ ack_answer self.old.lane }
-        ensures after { self.new ≡ with_lane self.old (after_acking self.old.lane) }
+        ensures answer { result ≡ core_ack_answer self.old.lane }
+        ensures after { self.new ≡ core_with_lane self.old (after_acking self.old.lane) }
         ensures law { HoldsRingLaw self.new.lane }
     {
         let Phase::Cleared = self.phase else {
@@ -358,7 +358,7 @@ impl Lane {
     /// second call changes nothing. That a write on a lost link is lost without a word is this project's reading of a
     /// posted write.
     pub fn cut(&mut self)
-        ensures after { self.new ≡ with_lane self.old (after_cut self.old.lane) }
+        ensures after { self.new ≡ core_with_lane self.old (after_cut self.old.lane) }
         ensures law { HoldsRingLaw self.new.lane }
     {
         self.up = false;
@@ -369,7 +369,7 @@ impl Lane {
     /// stay.
     pub fn drop_all(&mut self)
         requires { self.old.lane.up ≡ false }
-        ensures after { self.new ≡ with_lane self.old (after_drop self.old.lane) }
+        ensures after { self.new ≡ core_with_lane self.old (after_drop self.old.lane) }
         ensures law { HoldsRingLaw self.new.lane }
     {
         self.flight.discard();
@@ -382,11 +382,11 @@ impl Model for Lane {
 
     ghost Value = { LaneValue };
 
-    ghost use Rattle.lane_core.specs.LaneView.{value_seen, IsKept};
+    ghost use Rattle.lane_core.specs.LaneView.{value_seen, IsCoreKept};
 
     ghost view = { value_seen };
 
-    ghost invariant = { IsKept };
+    ghost invariant = { IsCoreKept };
 }
 
 // Makes room for one more entry, for this many writes that are left to post, and for their posts.

@@ -5,9 +5,9 @@ ghost use Rattle.lane_model.specs.Lane.{GoesDown, chunk_of, chunk_size};
 ghost use Rattle.lane_model.specs.declared.Write.TheVariants.{Data};
 ghost use Rattle.lane_model.specs.Ring.{free_entries};
 ghost use Rattle.pair_model.specs.Labels.{label_of};
-ghost use Rattle.lane_core.specs.Calls.{number_of};
+ghost use Rattle.lane_core.specs.Calls.{core_number_of};
 ghost use Rattle.lane_core.specs.Fresh.{zeroed_slot};
-ghost use Rattle.lane_core.specs.Parts.{entry_in, entry_seen, place_seen, CanStore, IsKnown, ring_after, with_flags_at};
+ghost use Rattle.lane_core.specs.Parts.{core_entry_in, entry_seen, place_seen, CanStore, IsKnown, core_ring_after, with_flags_at};
 
 use crate::entry::Entry;
 use crate::slot::{CHUNK, Slot};
@@ -52,7 +52,7 @@ pub fn free_between(entries: u32, head: u32, tail: u32) -> u32
 pub fn store(ring: &mut [Slot], entries: u32, sent: &[Entry], mark: Write)
     requires ring { length ring.old ≡ entries }
     requires can { CanStore (map place_seen ring.old) (map entry_seen sent.now) mark }
-    ensures { map place_seen ring.new ≡ ring_after (map place_seen ring.old) (map entry_seen sent.now) mark }
+    ensures { map place_seen ring.new ≡ core_ring_after (map place_seen ring.old) (map entry_seen sent.now) mark }
 {
     match mark {
         Write::Data { number, field } => {
@@ -109,7 +109,7 @@ fn append_reserved(out: &mut Vec<u8>, bytes: &[u8])
 /// Returns the label of a write of the lane on a queue. If it writes flags, their entry was begun.
 pub fn label(queue: u32, sent: &[Entry], mark: Write) -> Label
     requires { IsKnown mark (length sent.now) }
-    ensures { result ≡ label_of queue (entry_in (map entry_seen sent.now) (number_of mark)) mark }
+    ensures { result ≡ label_of queue (core_entry_in (map entry_seen sent.now) (core_number_of mark)) mark }
 {
     match mark {
         Write::Data { number, field } => field_label(queue, number, field),

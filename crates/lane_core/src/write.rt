@@ -3,7 +3,7 @@
 ghost use Rattle.std.specs.Prelude.{◌≡◌, ◌+◌, ◌-◌, ◌<◌, ◌≤◌, [], ◌∷◌, ◌++◌, length, if◌then◌else◌};
 ghost use Rattle.std.specs.VecDeque.{deque_len, deque_capacity};
 ghost use Rattle.lane_model.specs.Lane.{bytes_of, chunks_in, writes_of};
-ghost use Rattle.lane_core.specs.Parts.{entry_seen, flags_landed};
+ghost use Rattle.lane_core.specs.Parts.{entry_seen, core_flags_landed};
 
 use crate::entry::Entry;
 use lane_model::{Field, Write};
@@ -93,7 +93,7 @@ pub fn fill_todo(todo: &mut VecDeque<Write>, number: u64, entry: &Entry)
 
 /// Returns how many entries have their flags landed by this write: one, where it is an entry's flags.
 pub fn landed_flags(mark: Write) -> u64
-    ensures { result ≡ flags_landed mark }
+    ensures { result ≡ core_flags_landed mark }
 {
     match mark {
         Write::Flag { .. } => 1,

@@ -2,7 +2,7 @@
 use Rattle.std.proofs.Common.{◌≡◌, ℕ, suc, ◌+◌, ◌%◌, ◌<◌, ◌≤◌, ◌⊎◌, true, List, [], ◌∷◌, ◌++◌, length, drop, refl, sym, ap, ◌∙◌, subst, inl, inr, arith, mod-lt, length-drop, drop-drop, Contains}
 use Rattle.std.proofs.lemmas.Bool.{cases_eq, cases_order}
 use Rattle.std.proofs.lemmas.List.Elements.{Contains-append_left, Contains-append_right, Contains-append_cases}
-use Rattle.lane_model.specs.Lane.{Slot, Lane, bytes_of, data_of, flags_of, entry_of, slot_of, with_field, with_flags}
+use Rattle.lane_model.specs.Lane.{Slot, Lane, bytes_of, data_of, flags_of, entry_of, lane_slot_of, with_field, with_flags}
 use Rattle.lane_model.specs.declared.Field.{Field}
 use Rattle.lane_model.specs.declared.Write.{Write}
 use Rattle.lane_model.specs.declared.Write.TheVariants.{Data, Flag, Bell}
@@ -80,16 +80,16 @@ nothing_left lost lost_back lane up no_flight no_todo h =
 
 -- the entry in front stands whole once its flags are up
 whole_under_flags : (lost : List Write) (lost_back : List ℕ) (lane : Lane) (n : ℕ) (rest : List Write) → lane.flight ≡ Flag n ∷ rest → RingLaw lost lost_back lane
-    → StandsWhole (with_flags (slot_of lane n) (flags_of (entry_of lane n))) n (entry_of lane n)
+    → StandsWhole (with_flags (lane_slot_of lane n) (flags_of (entry_of lane n))) n (entry_of lane n)
 whole_under_flags lost lost_back lane n rest front h =
     let next = flag_is_next lost lost_back lane n rest front h in
     let apart : (lane.flight ++ lost) ++ lane.todo ≡ Flag n ∷ ((rest ++ lost) ++ lane.todo) = front_apart lane.flight (Flag n) rest lost lane.todo front in
     let begun : n < length lane.sent = next.1 in
     let low : lane.flagged ≤ n = omega (arith, next.0) in
-    let room : length (slot_of lane n).payload ≡ lane.largest = h.room.rooms (n % lane.entries) (mod-lt n (omega arith)) in
+    let room : length (lane_slot_of lane n).payload ≡ lane.largest = h.room.rooms (n % lane.entries) (mod-lt n (omega arith)) in
     let fits : length (bytes_of (entry_of lane n)) ≤ lane.largest = h.frames.fits n begun in
-    fields_make_whole (with_flags (slot_of lane n) (flags_of (entry_of lane n))) n (entry_of lane n) (omega arith)
-    (λ field among. stands_under_flags (slot_of lane n) n (entry_of lane n) field (flags_of (entry_of lane n)) (elim (h.standing.landed n field low begun (cell_of_field n (entry_of lane n) field among)) [
+    fields_make_whole (with_flags (lane_slot_of lane n) (flags_of (entry_of lane n))) n (entry_of lane n) (omega arith)
+    (λ field among. stands_under_flags (lane_slot_of lane n) n (entry_of lane n) field (flags_of (entry_of lane n)) (elim (h.standing.landed n field low begun (cell_of_field n (entry_of lane n) field among)) [
       | inl comes ↦ elim (contains_cases (Flag n) ((rest ++ lost) ++ lane.todo) (Data n field) (subst (λ w. Contains w (Data n field)) apart comes)) [
         | inl e ↦ absurd (cc e)
         | inr later ↦ elim (contains_cases Bell next.2 (Data n field) (subst (λ w. Contains w (Data n field)) next.3 later)) [
@@ -112,13 +112,13 @@ land_flag_keeps lost lost_back lane n rest front h =
     let is_next : n ≡ lane.flagged = next.0 in
     let apart : (lane.flight ++ lost) ++ lane.todo ≡ Flag n ∷ ((rest ++ lost) ++ lane.todo) = front_apart lane.flight (Flag n) rest lost lane.todo front in
     let after : Lane = after_landing lane (Flag n) rest in
-    let slot : Slot = with_flags (slot_of lane n) (flags_of (entry_of lane n)) in
+    let slot : Slot = with_flags (lane_slot_of lane n) (flags_of (entry_of lane n)) in
     let in_ring : n % lane.entries < lane.entries = mod-lt n (omega arith) in
-    let elsewhere_below : (m : ℕ) → m < n → n < m + lane.entries → slot_of after m ≡ slot_of lane m =
+    let elsewhere_below : (m : ℕ) → m < n → n < m + lane.entries → lane_slot_of after m ≡ lane_slot_of lane m =
     λ m low high. place_other lane n m slot (λ e. other_number lane.entries m n low high (sym e)) in
-    let elsewhere_above : (m : ℕ) → n < m → m < n + lane.entries → slot_of after m ≡ slot_of lane m =
+    let elsewhere_above : (m : ℕ) → n < m → m < n + lane.entries → lane_slot_of after m ≡ lane_slot_of lane m =
     λ m low high. place_other lane n m slot (other_number lane.entries n m low high) in
-    let whole_now : StandsWhole (slot_of after n) n (entry_of lane n) =
+    let whole_now : StandsWhole (lane_slot_of after n) n (entry_of lane n) =
     subst (λ p. StandsWhole p n (entry_of lane n)) (sym (place_same lane n n slot h.room.slots h.room.two_entries refl)) (whole_under_flags lost lost_back lane n rest front h) in
     record {
       room = record {
@@ -146,7 +146,7 @@ land_flag_keeps lost lost_back lane n rest front h =
       none_lost = h.none_lost;
       standing = record {
         whole = λ m low high. elim (cases_eq n m) [
-          | inl same ↦ subst (λ k. StandsWhole (slot_of after k) k (entry_of lane k)) same whole_now
+          | inl same ↦ subst (λ k. StandsWhole (lane_slot_of after k) k (entry_of lane k)) same whole_now
           | inr apart_from ↦ subst (λ p. StandsWhole p m (entry_of lane m)) (sym (elsewhere_below m (omega arith) (omega arith))) (h.standing.whole m low (omega arith))
         ];
         empty = λ m low high. ap (λ p. p.flags) (elsewhere_above m (omega arith) (omega arith)) ∙ h.standing.empty m (omega arith) high;
@@ -192,21 +192,21 @@ land_data_keeps lost lost_back lane n field before behind middle h =
     let high_n : n < length lane.sent = ahead.1 in
     let of_entry : IsFieldOf (entry_of lane n) field = (field_among n n (entry_of lane n) field ahead.2).1 in
     let after : Lane = after_landing lane (Data n field) (before ++ behind) in
-    let slot : Slot = with_field (slot_of lane n) n (entry_of lane n) field in
+    let slot : Slot = with_field (lane_slot_of lane n) n (entry_of lane n) field in
     let in_ring : n % lane.entries < lane.entries = mod-lt n (omega arith) in
-    let room : length (slot_of lane n).payload ≡ lane.largest = h.room.rooms (n % lane.entries) in_ring in
-    let fits : length (bytes_of (entry_of lane n)) ≤ length (slot_of lane n).payload = omega (arith, h.frames.fits n high_n) in
-    let stays = room_stays (slot_of lane n) n (entry_of lane n) field of_entry fits in
-    let same_place : slot_of after n ≡ slot = place_same lane n n slot h.room.slots h.room.two_entries refl in
-    let elsewhere_below : (m : ℕ) → m < n → n < m + lane.entries → slot_of after m ≡ slot_of lane m =
+    let room : length (lane_slot_of lane n).payload ≡ lane.largest = h.room.rooms (n % lane.entries) in_ring in
+    let fits : length (bytes_of (entry_of lane n)) ≤ length (lane_slot_of lane n).payload = omega (arith, h.frames.fits n high_n) in
+    let stays = room_stays (lane_slot_of lane n) n (entry_of lane n) field of_entry fits in
+    let same_place : lane_slot_of after n ≡ slot = place_same lane n n slot h.room.slots h.room.two_entries refl in
+    let elsewhere_below : (m : ℕ) → m < n → n < m + lane.entries → lane_slot_of after m ≡ lane_slot_of lane m =
     λ m low high. place_other lane n m slot (λ e. other_number lane.entries m n low high (sym e)) in
-    let elsewhere_above : (m : ℕ) → n < m → m < n + lane.entries → slot_of after m ≡ slot_of lane m =
+    let elsewhere_above : (m : ℕ) → n < m → m < n + lane.entries → lane_slot_of after m ≡ lane_slot_of lane m =
     λ m low high. place_other lane n m slot (other_number lane.entries n m low high) in
-    let written : (f : Field) → field ≡ f → Stands (slot_of after n) n (entry_of lane n) f = λ f e.
-    subst (Stands (slot_of after n) n (entry_of lane n)) e
-    (subst (λ p. Stands p n (entry_of lane n) field) (sym same_place) (stands_written (slot_of lane n) n (entry_of lane n) field of_entry fits)) in
-    let still : (f : Field) → Stands (slot_of lane n) n (entry_of lane n) f → Stands (slot_of after n) n (entry_of lane n) f = λ f stands.
-    subst (λ p. Stands p n (entry_of lane n) f) (sym same_place) (stands_still (slot_of lane n) n (entry_of lane n) field f of_entry fits stands) in
+    let written : (f : Field) → field ≡ f → Stands (lane_slot_of after n) n (entry_of lane n) f = λ f e.
+    subst (Stands (lane_slot_of after n) n (entry_of lane n)) e
+    (subst (λ p. Stands p n (entry_of lane n) field) (sym same_place) (stands_written (lane_slot_of lane n) n (entry_of lane n) field of_entry fits)) in
+    let still : (f : Field) → Stands (lane_slot_of lane n) n (entry_of lane n) f → Stands (lane_slot_of after n) n (entry_of lane n) f = λ f stands.
+    subst (λ p. Stands p n (entry_of lane n) f) (sym same_place) (stands_still (lane_slot_of lane n) n (entry_of lane n) field f of_entry fits stands) in
     record {
       room = record {
         two_entries = h.room.two_entries;
@@ -224,7 +224,7 @@ land_data_keeps lost lost_back lane n field before behind middle h =
       standing = record {
         whole = λ m low high. subst (λ p. StandsWhole p m (entry_of lane m)) (sym (elsewhere_below m (omega arith) (omega arith))) (h.standing.whole m low high);
         empty = λ m low high. elim (cases_order m n) [
-          | inl same ↦ ap (λ p. p.flags) (place_same lane n m slot h.room.slots h.room.two_entries (ap (λ k. k % lane.entries) same)) ∙ flags_stay (slot_of lane n) n (entry_of lane n) field ∙ h.standing.empty n low_n (omega arith)
+          | inl same ↦ ap (λ p. p.flags) (place_same lane n m slot h.room.slots h.room.two_entries (ap (λ k. k % lane.entries) same)) ∙ flags_stay (lane_slot_of lane n) n (entry_of lane n) field ∙ h.standing.empty n low_n (omega arith)
           | inr other ↦ elim other [
             | inl below ↦ ap (λ p. p.flags) (elsewhere_below m below (omega arith)) ∙ h.standing.empty m low high
             | inr above ↦ ap (λ p. p.flags) (elsewhere_above m above (omega arith)) ∙ h.standing.empty m low high
@@ -235,11 +235,11 @@ land_data_keeps lost lost_back lane n field before behind middle h =
             | inl e ↦
                 let same_n : n ≡ m = cc in
                 let same_field : field ≡ f = cc in
-                inr (subst (λ k. Stands (slot_of after k) k (entry_of lane k) f) same_n (written f same_field))
+                inr (subst (λ k. Stands (lane_slot_of after k) k (entry_of lane k) f) same_n (written f same_field))
             | inr rest ↦ inl (subst (λ w. Contains w (Data m f)) (sym left_now) rest)
           ]
           | inr stands ↦ inr (elim (cases_order n m) [
-            | inl same ↦ subst (λ k. Stands (slot_of after k) k (entry_of lane k) f) same (still f (subst (λ k. Stands (slot_of lane k) k (entry_of lane k) f) (sym same) stands))
+            | inl same ↦ subst (λ k. Stands (lane_slot_of after k) k (entry_of lane k) f) same (still f (subst (λ k. Stands (lane_slot_of lane k) k (entry_of lane k) f) (sym same) stands))
             | inr other ↦ elim other [
               | inl above ↦ subst (λ p. Stands p m (entry_of lane m) f) (sym (elsewhere_above m above (omega arith))) stands
               | inr below ↦ subst (λ p. Stands p m (entry_of lane m) f) (sym (elsewhere_below m below (omega arith))) stands

@@ -2,8 +2,8 @@
 use Rattle.std.proofs.Common.{◌≡◌, ℕ, ◌≤◌, [], ◌∷◌, ◌++◌, length, ◌∙◌, ap, inl, inr, arith, le-ltb}
 use Rattle.std.proofs.lemmas.Bool.{cond-false, cases_lt, cases_Bool}
 use Rattle.lane_model.specs.Lane.{Lane}
-use Rattle.lane_model.specs.Law.{Sender, owner_of, entry_at}
-use Rattle.lane_laws.specs.Laws.{LookSees, CopySees, FreshHolds, BeginKeeps, PostKeeps, LandDataKeeps, LandFlagKeeps, LandBellKeeps, FlagIsNext, DataIsAhead, NothingLeft, LookKeeps, CopyKeeps, ClearKeeps, AckKeeps, IndexKeeps, CutKeeps, DropKeeps, ForgetKeeps, FreeIsRoom, IndexIsNext, EachHasOneOwner}
+use Rattle.lane_model.specs.Law.{Sender, owner_of, lane_entry_at}
+use Rattle.lane_laws.specs.Laws.{LookSees, CopySees, FreshHolds, BeginKeeps, PostKeeps, LandDataKeeps, LandFlagKeeps, LandBellKeeps, FlagIsNext, DataIsAhead, NothingLeft, LookKeeps, CopyKeeps, ClearKeeps, AckKeeps, IndexKeeps, CutKeeps, DropKeeps, ForgetKeeps, LaneFreeIsRoom, IndexIsNext, EachHasOneOwner}
 use Rattle.lane_laws.proofs.Numbers as numbers
 use Rattle.lane_laws.proofs.Receiver as receiver
 use Rattle.lane_laws.proofs.Sender as sender
@@ -14,7 +14,7 @@ pub fresh_holds : FreshHolds
 fresh_holds lane fresh = ([], [], sender.fresh_holds lane fresh)
 
 -- Under the law of the ring, head and index word show as many free entries as the counts of begun and freed do.
-pub free_is_room : FreeIsRoom
+pub free_is_room : LaneFreeIsRoom
 free_is_room lane law = sender.free_is_room law.0 law.1 lane law.2
 
 -- Beginning an entry that fits keeps the law of the ring where there is room, nothing to post and no link-down entry.
@@ -117,8 +117,8 @@ each_has_one_owner lane law =
       of_entry = λ n low high. ap (owner_of lane) (numbers.number_at lane.entries lane.freed n low (omega arith));
       of_none = λ slot below none.
           let at = numbers.number_from lane.entries lane.freed slot below in
-          elim (cases_lt (entry_at lane slot) (length lane.sent)) [
-            | inl begun ↦ absurd (none (entry_at lane slot) at.0 begun at.2)
-            | inr free ↦ not_begun lane (entry_at lane slot) (omega arith) (omega arith) (omega arith) (omega arith) free
+          elim (cases_lt (lane_entry_at lane slot) (length lane.sent)) [
+            | inl begun ↦ absurd (none (lane_entry_at lane slot) at.0 begun at.2)
+            | inr free ↦ not_begun lane (lane_entry_at lane slot) (omega arith) (omega arith) (omega arith) (omega arith) free
           ];
     }

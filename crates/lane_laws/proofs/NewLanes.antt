@@ -2,7 +2,7 @@
 use Rattle.std.proofs.Common.{◌≡◌, ℕ, ◌%◌, ◌<◌, ◌≤◌, Bool, true, List, [], length, replicate, refl, ap, ◌∙◌, arith, mod-lt}
 use Rattle.std.specs.Prelude.{slice_index_or}
 use Rattle.std.proofs.lemmas.List.{length-replicate, get_or-replicate}
-use Rattle.lane_model.specs.Lane.{Slot, blank_slot, new_lane, slot_of}
+use Rattle.lane_model.specs.Lane.{Slot, blank_slot, new_lane, lane_slot_of}
 use Rattle.lane_model.specs.Law.{HoldsRingLaw}
 use Rattle.lane_model.specs.Ring.{tail_of}
 use Rattle.lane_model.specs.declared.Write.{Write}
@@ -40,5 +40,5 @@ new_holds entries largest index_word slot two long down tail =
     empty_holds entries largest index_word true (replicate entries slot) [] [] two (length-replicate entries slot)
     (λ k below. ap (λ (place : Slot). length place.payload) (alike k) ∙ long) (λ k. ap (λ (place : Slot). place.flags) (alike k) ∙ down) tail refl refl
   where
-    alike : (k : ℕ) → slot_of (new_lane entries largest (replicate entries slot) index_word) k ≡ slot
+    alike : (k : ℕ) → lane_slot_of (new_lane entries largest (replicate entries slot) index_word) k ≡ slot
     alike k = get_or-replicate entries (k % entries) slot blank_slot (mod-lt k (omega arith))

@@ -2,7 +2,7 @@
 use Rattle.std.proofs.Common.{◌≡◌, ℕ, suc, ◌+◌, ◌-◌, ◌%◌, ◌<◌, ◌≤◌, Bool, true, false, true≢false, List, [], ◌∷◌, ◌++◌, length, refl, sym, ap, ◌∙◌, subst, inl, inr, arith, append-nil, append_assoc, mod-lt, if◌then◌else◌}
 use native.Mathlib.Nat.{add-mod_right}
 use Rattle.std.proofs.lemmas.Bool.{cases_Bool, cases_eq, cond-true, cond-false, ltb-true}
-use Rattle.lane_model.specs.Lane.{Slot, Lane, count_from, copies_of, entry_of, slot_of, with_flags}
+use Rattle.lane_model.specs.Lane.{Slot, Lane, count_from, copies_of, entry_of, lane_slot_of, with_flags}
 use Rattle.lane_model.specs.declared.Field.TheVariants.{Chunk}
 use Rattle.lane_model.specs.declared.Write.{Write}
 use Rattle.lane_model.specs.Law.{IndexesCome, PhaseCounts, RingLaw, SlotsStand, Stands, StandsWhole, WritesCome}
@@ -25,12 +25,12 @@ look_sees lost lost_back lane idle h =
 
 -- If the law of the ring holds, a copying receiver's entry stands whole in its slot, with a part left to copy.
 pub copy_sees : (lost : List Write) (lost_back : List ℕ) (lane : Lane) → lane.phase ≡ Copying → RingLaw lost lost_back lane
-    → (lane.got < lane.flagged) × StandsWhole (slot_of lane lane.got) lane.got (entry_of lane lane.got)
-    × (lane.part < copies_of (entry_of lane lane.got)) × Stands (slot_of lane lane.got) lane.got (entry_of lane lane.got) (Chunk lane.part)
+    → (lane.got < lane.flagged) × StandsWhole (lane_slot_of lane lane.got) lane.got (entry_of lane lane.got)
+    × (lane.part < copies_of (entry_of lane lane.got)) × Stands (lane_slot_of lane lane.got) lane.got (entry_of lane lane.got) (Chunk lane.part)
 copy_sees lost lost_back lane copying h =
     let counts : PhaseCounts Copying lane.acked lane.cleared lane.got lane.flagged = subst (λ p. PhaseCounts p lane.acked lane.cleared lane.got lane.flagged) copying h.receiver.phase_counts in
     let whole = h.standing.whole lane.got h.counts.cleared_first counts.2 in
-    (counts.2, whole, h.receiver.part_first copying, chunk_of_whole (slot_of lane lane.got) lane.got (entry_of lane lane.got) lane.part whole)
+    (counts.2, whole, h.receiver.part_first copying, chunk_of_whole (lane_slot_of lane lane.got) lane.got (entry_of lane lane.got) lane.part whole)
 
 -- the counts of a phase where only more flags landed
 pub more_flagged : (phase : Phase) (acked cleared got flagged more : ℕ) → flagged ≤ more → PhaseCounts phase acked cleared got flagged → PhaseCounts phase acked cleared got more
@@ -105,9 +105,9 @@ copy_keeps lost lost_back lane copying h =
 pub clear_keeps : (lost : List Write) (lost_back : List ℕ) (lane : Lane) → lane.phase ≡ Copied → RingLaw lost lost_back lane → RingLaw lost lost_back (after_clear lane)
 clear_keeps lost lost_back lane copied h =
     let counts : PhaseCounts Copied lane.acked lane.cleared lane.got lane.flagged = subst (λ p. PhaseCounts p lane.acked lane.cleared lane.got lane.flagged) copied h.receiver.phase_counts in
-    let cleared_place : Slot = with_flags (slot_of lane lane.cleared) 0 in
+    let cleared_place : Slot = with_flags (lane_slot_of lane lane.cleared) 0 in
     let in_ring : lane.cleared % lane.entries < lane.entries = mod-lt lane.cleared (omega arith) in
-    let elsewhere : (n : ℕ) → lane.cleared < n → n < lane.cleared + lane.entries → slot_of (after_clear lane) n ≡ slot_of lane n =
+    let elsewhere : (n : ℕ) → lane.cleared < n → n < lane.cleared + lane.entries → lane_slot_of (after_clear lane) n ≡ lane_slot_of lane n =
     λ n low high. place_other lane lane.cleared n cleared_place (other_number lane.entries lane.cleared n low high) in
     record {
       room = record {

@@ -1,7 +1,7 @@
 -- The slots of a ring after one was written.
 use Rattle.std.proofs.Common.{◌≡◌, ◌≢◌, ℕ, ◌%◌, ◌<◌, ◌≤◌, length, get_or, sym, subst, ap, ◌∙◌, inl, inr, arith, mod-lt, length-set, get_or-set_same, get_or-set_other}
 use Rattle.std.proofs.lemmas.Bool.{cases_eq}
-use Rattle.lane_model.specs.Lane.{Lane, Slot, blank_slot, slot_of, ring_with}
+use Rattle.lane_model.specs.Lane.{Lane, Slot, blank_slot, lane_slot_of, ring_with}
 
 -- the slot that was written
 pub place_same : (lane : Lane) (n m : ℕ) (slot : Slot) → length lane.ring ≡ lane.entries → 2 ≤ lane.entries → m % lane.entries ≡ n % lane.entries
@@ -12,7 +12,7 @@ place_same lane n m slot slots two e =
 
 -- another slot
 pub place_other : (lane : Lane) (n m : ℕ) (slot : Slot) → m % lane.entries ≢ n % lane.entries
-    → get_or (ring_with lane n slot) (m % lane.entries) blank_slot ≡ slot_of lane m
+    → get_or (ring_with lane n slot) (m % lane.entries) blank_slot ≡ lane_slot_of lane m
 place_other lane n m slot e = get_or-set_other lane.ring (n % lane.entries) (m % lane.entries) slot blank_slot e
 
 -- A ring in which one slot was replaced has as many slots as before.

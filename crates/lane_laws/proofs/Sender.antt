@@ -4,7 +4,7 @@ use Rattle.std.proofs.lemmas.Bool.{cases_eq, cond-true, cond-false}
 use Rattle.std.proofs.lemmas.List.{drop_all, length_push, get_or_push, get_or_append_left}
 use Rattle.std.proofs.lemmas.List.Elements.{Contains-append_left, Contains-append_right}
 use Rattle.lane_model.specs.Ring.{head_of, free_entries, tail_of, room_of}
-use Rattle.lane_model.specs.Lane.{Entry, GoesDown, blank_slot, Lane, bytes_of, data_of, writes_of, count_from, copies_of, entry_of, slot_of, free_in}
+use Rattle.lane_model.specs.Lane.{Entry, GoesDown, blank_slot, Lane, bytes_of, data_of, writes_of, count_from, copies_of, entry_of, lane_slot_of, free_in}
 use Rattle.lane_model.specs.declared.Write.{Write}
 use Rattle.lane_model.specs.declared.Write.TheVariants.{Data, Flag, Bell}
 use Rattle.lane_model.specs.Law.{AreLeft, AreLeftToLand, PhaseCounts, EndTheLast, Stands, StandsWhole, RingLaw}
@@ -132,7 +132,7 @@ begin_keeps lost lost_back lane entry no_todo free fits open_yet h =
       standing = record {
         whole = λ n low high.
             let before : n < length lane.sent = omega arith in
-            subst (StandsWhole (slot_of lane n) n) (sym (entry_before lane entry n before)) (h.standing.whole n low high);
+            subst (StandsWhole (lane_slot_of lane n) n) (sym (entry_before lane entry n before)) (h.standing.whole n low high);
         empty = h.standing.empty;
         landed = λ n field low high among. elim (cases_eq n (length lane.sent)) [
           | inl new ↦
@@ -144,7 +144,7 @@ begin_keeps lost lost_back lane entry no_todo free fits open_yet h =
               let same = entry_before lane entry n before in
               elim (h.standing.landed n field low before (subst (λ e. Contains (data_of n e) (Data n field)) same among)) [
                 | inl comes ↦ inl (Contains-append_left coming new_writes (Data n field) (subst (λ w. Contains w (Data n field)) no_more comes))
-                | inr stands ↦ inr (subst (λ e. Stands (slot_of lane n) n e field) (sym same) stands)
+                | inr stands ↦ inr (subst (λ e. Stands (lane_slot_of lane n) n e field) (sym same) stands)
               ]
         ];
       };

@@ -1,7 +1,7 @@
 -- What holds of every lane: each step keeps the law of the ring, and what the two sides read from it.
 use Rattle.std.specs.Prelude.{◌≡◌, ◌≢◌, ℕ, ◌%◌, ◌<◌, ◌≤◌, true, false, List, [], ◌∷◌, ◌++◌, length, Contains}
 use Rattle.lane_model.specs.Ring.{tail_of, room_of}
-use Rattle.lane_model.specs.Lane.{Entry, GoesDown, Lane, bytes_of, copies_of, data_of, entry_of, slot_of, free_in}
+use Rattle.lane_model.specs.Lane.{Entry, GoesDown, Lane, bytes_of, copies_of, data_of, entry_of, lane_slot_of, free_in}
 use Rattle.lane_model.specs.declared.Field.{Field}
 use Rattle.lane_model.specs.declared.Field.TheVariants.{Chunk}
 use Rattle.lane_model.specs.declared.Write.{Write}
@@ -14,8 +14,8 @@ use Rattle.lane_model.specs.declared.Phase.TheVariants.{Idle, Copying, Copied, C
 pub record IsFresh (lane : Lane) : Type 0 where
   pub two_entries : 2 ≤ lane.entries
   pub slots : length lane.ring ≡ lane.entries
-  pub rooms : (k : ℕ) → k < lane.entries → length (slot_of lane k).payload ≡ lane.largest
-  pub no_flags : (k : ℕ) → (slot_of lane k).flags ≡ 0
+  pub rooms : (k : ℕ) → k < lane.entries → length (lane_slot_of lane k).payload ≡ lane.largest
+  pub no_flags : (k : ℕ) → (lane_slot_of lane k).flags ≡ 0
   pub index_word : lane.index_word ≡ tail_of lane.entries 0
   pub sent : lane.sent ≡ []
   pub todo : lane.todo ≡ []
@@ -80,13 +80,13 @@ abbrev pub ForgetKeeps : Type 0
 ForgetKeeps = (lane : Lane) → lane.up ≡ false → HoldsRingLaw lane → HoldsRingLaw (record lane { todo = [] })
 
 -- what the sender reads: head and index word show the entries that are free
-abbrev pub FreeIsRoom : Type 0
-FreeIsRoom = (lane : Lane) → HoldsRingLaw lane → free_in lane ≡ room_of lane.entries (length lane.sent) lane.freed
+abbrev pub LaneFreeIsRoom : Type 0
+LaneFreeIsRoom = (lane : Lane) → HoldsRingLaw lane → free_in lane ≡ room_of lane.entries (length lane.sent) lane.freed
 
 -- what an idle receiver reads: flags just where the next entry has landed, and then the entry whole
 pub record SeesNext (lane : Lane) : Type 0 where
-  pub nothing : lane.flagged ≡ lane.got → (slot_of lane lane.got).flags ≡ 0
-  pub an_entry : lane.got < lane.flagged → StandsWhole (slot_of lane lane.got) lane.got (entry_of lane lane.got)
+  pub nothing : lane.flagged ≡ lane.got → (lane_slot_of lane lane.got).flags ≡ 0
+  pub an_entry : lane.got < lane.flagged → StandsWhole (lane_slot_of lane lane.got) lane.got (entry_of lane lane.got)
   pub one_of_both : lane.got ≤ lane.flagged
 
 abbrev pub LookSees : Type 0
@@ -94,8 +94,8 @@ LookSees = (lane : Lane) → lane.phase ≡ Idle → HoldsRingLaw lane → SeesN
 
 -- what a copying receiver reads: the entry, whole, and of it the part that it copies next
 abbrev pub CopySees : Type 0
-CopySees = (lane : Lane) → lane.phase ≡ Copying → HoldsRingLaw lane → (lane.got < lane.flagged) × StandsWhole (slot_of lane lane.got) lane.got (entry_of lane lane.got)
-    × (lane.part < copies_of (entry_of lane lane.got)) × Stands (slot_of lane lane.got) lane.got (entry_of lane lane.got) (Chunk lane.part)
+CopySees = (lane : Lane) → lane.phase ≡ Copying → HoldsRingLaw lane → (lane.got < lane.flagged) × StandsWhole (lane_slot_of lane lane.got) lane.got (entry_of lane lane.got)
+    × (lane.part < copies_of (entry_of lane lane.got)) × Stands (lane_slot_of lane lane.got) lane.got (entry_of lane lane.got) (Chunk lane.part)
 
 -- what lands next: the flags of the first entry that has none, and the index write of the first entry not given back.
 -- Fields in flight are of entries that have no flags yet.

@@ -6,7 +6,7 @@
 //! premises. What a slot or a word in memory shows to sender and receiver follows from the law, and from the receiver's
 //! phase where the text names it. None has a premise on how the lane came to be.
 
-ghost use Rattle.lane_laws.specs.Laws.{FreshHolds, BeginKeeps, PostKeeps, LandDataKeeps, LandFlagKeeps, LandBellKeeps, LookKeeps, CopyKeeps, ClearKeeps, AckKeeps, IndexKeeps, CutKeeps, DropKeeps, ForgetKeeps, FreeIsRoom, LookSees, CopySees, FlagIsNext, IndexIsNext, DataIsAhead, NothingLeft, EachHasOneOwner};
+ghost use Rattle.lane_laws.specs.Laws.{FreshHolds, BeginKeeps, PostKeeps, LandDataKeeps, LandFlagKeeps, LandBellKeeps, LookKeeps, CopyKeeps, ClearKeeps, AckKeeps, IndexKeeps, CutKeeps, DropKeeps, ForgetKeeps, LaneFreeIsRoom, LookSees, CopySees, FlagIsNext, IndexIsNext, DataIsAhead, NothingLeft, EachHasOneOwner};
 
 /// A lane at the start of its session has the law. Such a lane has a ring of two slots or more, each with room for the
 /// largest payload and without flags, and the index word is at the last slot. Nothing was begun, nothing is in flight,
@@ -84,7 +84,7 @@ pub fn forget_keeps()
 /// Head and index word show the sender the entries that are free: the ring's entries less one, less those that were
 /// begun and not given back.
 pub fn free_is_room()
-    ensures { FreeIsRoom }
+    ensures { LaneFreeIsRoom }
 {}
 
 /// An idle receiver finds flags in the next entry's slot just where the entry has landed, and then the entry whole:

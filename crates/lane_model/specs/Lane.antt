@@ -135,8 +135,8 @@ abbrev pub entry_of : Lane → ℕ → Entry
 entry_of lane n = slice_index_or lane.sent n GoesDown
 
 -- the slot of entry n
-abbrev pub slot_of : Lane → ℕ → Slot
-slot_of lane n = slice_index_or lane.ring (n % lane.entries) blank_slot
+abbrev pub lane_slot_of : Lane → ℕ → Slot
+lane_slot_of lane n = slice_index_or lane.ring (n % lane.entries) blank_slot
 
 -- the ring with another slot at the slot of entry n
 abbrev pub ring_with : Lane → ℕ → Slot → List Slot

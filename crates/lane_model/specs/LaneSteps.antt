@@ -40,6 +40,6 @@ Leads Cut before after = (before.up ≡ true) × (after ≡ after_cut before)
 Leads Drop before after = (before.up ≡ false) × (after ≡ after_drop before)
 
 -- steps, one after another
-abbrev pub Runs : List LaneStep → Lane → Lane → Type 0
-Runs [] before after = after ≡ before
-Runs (step ∷ steps) before after = (between : Lane) × Leads step before between × Runs steps between after
+abbrev pub LaneRuns : List LaneStep → Lane → Lane → Type 0
+LaneRuns [] before after = after ≡ before
+LaneRuns (step ∷ steps) before after = (between : Lane) × Leads step before between × LaneRuns steps between after

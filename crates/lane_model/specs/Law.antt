@@ -142,9 +142,9 @@ owner_of lane n =
     else Sender
 
 -- the entry that a slot is for: the first of those not given back whose slot it is
-abbrev pub entry_at : Lane → ℕ → ℕ
-entry_at lane slot = lane.freed + (slot + lane.entries - lane.freed % lane.entries) % lane.entries
+abbrev pub lane_entry_at : Lane → ℕ → ℕ
+lane_entry_at lane slot = lane.freed + (slot + lane.entries - lane.freed % lane.entries) % lane.entries
 
 -- the owner of a slot
 abbrev pub owner_at : Lane → ℕ → Owner
-owner_at lane slot = owner_of lane (entry_at lane slot)
+owner_at lane slot = owner_of lane (lane_entry_at lane slot)

@@ -2,7 +2,7 @@
 -- says, and so do the machine of a lane and the ledger of a cluster, each for its own steps. What it answers is no
 -- matter of the model of a lane: these two alone say it.
 use Rattle.std.specs.Prelude.{ℕ, ◌+◌, ◌%◌, Bool, false, List, [], ◌∷◌, ◌++◌, length, if◌then◌else◌, nat_lt}
-use Rattle.lane_model.specs.Lane.{Entry, Write, Data, Flag, Bell, Lane, bytes_of, chunks_in, writes_of, flags_of, entry_of, slot_of, ring_with, with_field, with_flags}
+use Rattle.lane_model.specs.Lane.{Entry, Write, Data, Flag, Bell, Lane, bytes_of, chunks_in, writes_of, flags_of, entry_of, lane_slot_of, ring_with, with_field, with_flags}
 use Rattle.lane_model.specs.declared.Phase.TheVariants.{Idle, Copying, Copied, Cleared}
 
 -- the sender begins an entry
@@ -15,8 +15,8 @@ after_post lane write rest = record lane { todo = rest; flight = (if lane.up the
 
 -- a write lands, `rest` being the others in flight
 abbrev pub after_landing : Lane → Write → List Write → Lane
-after_landing lane (Data n field) rest = record lane { flight = rest; ring = ring_with lane n (with_field (slot_of lane n) n (entry_of lane n) field) }
-after_landing lane (Flag n) rest = record lane { flight = rest; ring = ring_with lane n (with_flags (slot_of lane n) (flags_of (entry_of lane n))); flagged = lane.flagged + 1 }
+after_landing lane (Data n field) rest = record lane { flight = rest; ring = ring_with lane n (with_field (lane_slot_of lane n) n (entry_of lane n) field) }
+after_landing lane (Flag n) rest = record lane { flight = rest; ring = ring_with lane n (with_flags (lane_slot_of lane n) (flags_of (entry_of lane n))); flagged = lane.flagged + 1 }
 after_landing lane Bell rest = record lane { flight = rest }
 
 -- the receiver finds a frame
@@ -33,7 +33,7 @@ after_copy lane = if more_to_copy lane then record lane { part = lane.part + 1 }
 
 -- the receiver clears the flags
 abbrev pub after_clear : Lane → Lane
-after_clear lane = record lane { ring = ring_with lane lane.cleared (with_flags (slot_of lane lane.cleared) 0); cleared = lane.cleared + 1; phase = Cleared }
+after_clear lane = record lane { ring = ring_with lane lane.cleared (with_flags (lane_slot_of lane lane.cleared) 0); cleared = lane.cleared + 1; phase = Cleared }
 
 -- the receiver posts the index write
 abbrev pub after_ack : Lane → Lane

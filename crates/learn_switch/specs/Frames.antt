@@ -8,13 +8,13 @@ use Rattle.pair_model.specs.Switch.{Switch, after_relay, relay_answer}
 use Rattle.pair_model.specs.declared.RelayAnswer.{RelayAnswer}
 use Rattle.pair_model.specs.declared.RelayAnswer.TheVariants.{Flood, To}
 
-abbrev pub Bytes : Type 0
-Bytes = Switch (List ℕ)
+abbrev pub SwitchBytes : Type 0
+SwitchBytes = Switch (List ℕ)
 
-abbrev pub bytes_relay_answer : Bytes → ℕ → RelayAnswer
+abbrev pub bytes_relay_answer : SwitchBytes → ℕ → RelayAnswer
 bytes_relay_answer switch port = relay_answer (λ bytes. bytes) switch port
 
-abbrev pub bytes_after_relay : Bytes → ℕ → Bytes
+abbrev pub bytes_after_relay : SwitchBytes → ℕ → SwitchBytes
 bytes_after_relay switch port = after_relay (λ bytes. bytes) switch port
 
 -- the port that a frame goes to is one of this many
@@ -38,7 +38,7 @@ AllHaveHeaders lists = AllByRecursion (AllByRecursion HasHeader) lists
 
 -- what always holds of a switch: as many inboxes as lists of waiting frames, stations on its ports, no short frame that
 -- waits
-pub record IsSwitch (inboxes waiting : List (List (List ℕ))) (fdb : List Station) : Type 0 where
+pub record IsLearnSwitch (inboxes waiting : List (List (List ℕ))) (fdb : List Station) : Type 0 where
   pub same_ports : length inboxes ≡ length waiting
   pub few_ports : length waiting ≤ 16
   pub stations : AreBelow (length waiting) fdb

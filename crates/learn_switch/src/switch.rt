@@ -155,13 +155,13 @@ impl Switch {
 }
 
 impl Model for Switch {
-    ghost use Rattle.learn_switch.specs.Frames.{Bytes, IsSwitch};
+    ghost use Rattle.learn_switch.specs.Frames.{SwitchBytes, IsLearnSwitch};
 
-    ghost Value = { Bytes };
+    ghost Value = { SwitchBytes };
 
     ghost view = { λ switch. record { inboxes = switch.inboxes.items; waiting = switch.waiting.items; fdb = switch.fdb } };
 
-    ghost invariant = { λ switch. IsSwitch switch.inboxes.items switch.waiting.items switch.fdb };
+    ghost invariant = { λ switch. IsLearnSwitch switch.inboxes.items switch.waiting.items switch.fdb };
 }
 
 // Returns whether two lists have the same queues, in one order.

@@ -16,7 +16,7 @@ use Rattle.pair_model.specs.Switch.{Switch, after_relay, arrived, first, new_swi
 use Rattle.ledger_model.specs.Network.{Action, Relays, Rests, Sends, OnBridge, Network, action_of, answer_of, arrived_at, begin_on, item_of, items_from, made_after, network_after, network_from, new_network, next_item, next_network, passed, sends_first, sends_from, session_after, switches_reached, switches_sent}
 use Rattle.ledger_model.specs.Origins.{Carried, Passage, bytes_kept, origins_kept}
 use Rattle.ledger_model.specs.Ports.{Port, new_switches, port_on, switch_of, with_switch}
-use Rattle.ledger_laws.specs.Erased.{erased, with_frames}
+use Rattle.ledger_laws.specs.Erased.{erased, switch_with_frames}
 use Rattle.ledger_laws.specs.NetworkLaws.{OriginsChangeNothing}
 use Rattle.ledger_laws.proofs.OtherFrames.{after_relay-with_frames, arrived-with_frames, first-with_frames, new-with_frames, relay_answer-with_frames, sent-with_frames}
 
@@ -24,7 +24,7 @@ abbrev bytes_in : Carried → List ℕ
 bytes_in frame = frame.bytes
 
 abbrev plain : Switch Carried → Switch (List ℕ)
-plain = with_frames bytes_in
+plain = switch_with_frames bytes_in
 
 abbrev plain_passage : Passage Carried → Passage (List ℕ)
 plain_passage passage = record { frame = passage.frame.bytes; begun = passage.begun }

@@ -4,7 +4,7 @@ use Rattle.std.specs.Prelude.{if◌then◌else◌, slice_index_or}
 use Rattle.std.proofs.lemmas.List.{take-append-drop}
 use Rattle.std.proofs.lemmas.Bool.{eq-eqb, ne_eqb, cases_eq}
 use Rattle.lane_model.specs.Lane.{Entry, Carries, GoesDown}
-use Rattle.ledger_laws.specs.Laws.{Begins, NumberedFrom, times_of}
+use Rattle.ledger_laws.specs.Laws.{LogBegins, NumberedFrom, times_of}
 use Rattle.ledger_model.specs.Log.{Numbered}
 
 -- The frames of entries, from a number and from bytes of a frame under way on. The pieces of a frame are joined up to
@@ -50,7 +50,7 @@ rest-append rest (Carries bytes zero ∷ xs) ys = rest-append [] xs ys
 rest-append rest (Carries bytes (suc left) ∷ xs) ys = rest-append (rest ++ bytes) xs ys
 
 -- the frames of the first entries begin those of all
-pub frames-begin : (m : ℕ) (xs : List Entry) → Begins (frames_from 0 [] (take m xs)) (frames_from 0 [] xs)
+pub frames-begin : (m : ℕ) (xs : List Entry) → LogBegins (frames_from 0 [] (take m xs)) (frames_from 0 [] xs)
 frames-begin m xs =
     (frames_from (number_after 0 (take m xs)) (rest_after [] (take m xs)) (drop m xs), ap (frames_from 0 []) (sym (take-append-drop m xs)) ∙ frames-append 0 [] (take m xs) (drop m xs))
 
@@ -66,7 +66,7 @@ numbered-front n [] rest numbers = tt
 numbered-front n (x ∷ xs) rest numbers = (numbers.0, numbered-front (n + 1) xs rest numbers.1)
 
 -- The first frames of a list that is numbered in a row are numbered in a row from the same number on.
-pub numbered-begin : (n : ℕ) (xs ys : List Numbered) → Begins xs ys → NumberedFrom n ys → NumberedFrom n xs
+pub numbered-begin : (n : ℕ) (xs ys : List Numbered) → LogBegins xs ys → NumberedFrom n ys → NumberedFrom n xs
 numbered-begin n xs ys begins numbers = numbered-front n xs begins.0 (subst (NumberedFrom n) begins.1 numbers)
 
 -- numbered frames have each number at most once

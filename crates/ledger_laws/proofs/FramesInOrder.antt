@@ -16,7 +16,7 @@ use Rattle.ledger_model.specs.Log.{Answered, Numbered, accepts, delivers, accept
 use Rattle.ledger_model.specs.Next.{fresh_pair}
 use Rattle.ledger_model.specs.Receiving.{is_idle, is_copying, is_copied, is_cleared}
 use Rattle.pair_model.specs.Plans.{pair_plan}
-use Rattle.ledger_laws.specs.Laws.{Begins as BeginsList, NumberedFrom, EveryLogIsInOrder, EveryFrameComesOnce}
+use Rattle.ledger_laws.specs.Laws.{LogBegins as BeginsList, NumberedFrom, EveryLogIsInOrder, EveryFrameComesOnce}
 use Rattle.ledger_laws.proofs.AtStart.{fresh-lane, down-not_up}
 use Rattle.ledger_laws.proofs.BitSets.{no_bit}
 use Rattle.ledger_laws.proofs.Frames.{frames_from, number_after, rest_after, frames-append, number-append, rest-append, frames-begin, frames-numbered, numbered-begin, times-once, carries-within}

@@ -15,7 +15,7 @@ use Rattle.lane_model.specs.declared.Phase.{Phase}
 use Rattle.lane_model.specs.declared.Phase.TheVariants.{Idle}
 use Rattle.lane_model.specs.declared.Write.{Write}
 use Rattle.lane_model.specs.declared.Write.TheVariants.{Data, Flag as EntryFlag, Bell as QueueBell}
-use Rattle.ledger_model.specs.Labels.{write_of, index_of, writes_among, indexes_among}
+use Rattle.ledger_model.specs.Labels.{write_of, label_index_of, writes_among, indexes_among}
 use Rattle.ledger_model.specs.Ledger.{LanePart, PairPart, side_of}
 use Rattle.ledger_model.specs.LinkSteps.{fresh_lane}
 use Rattle.ledger_model.specs.Log.{Answered, ledger_of}
@@ -113,22 +113,22 @@ module _ (q : ℕ) (s : Sight) where
   out_posted : (label : Label) → write_of q label ≡ None → FreshOf q s → FreshBy q (LateOf s) (flight_with s.state s.sender.flight label) s.receiver.flight s.lane
   out_posted label none = out_alike (flight_with s.state s.sender.flight label) (posted_unread (write_of q) s.state s.sender.flight label none)
 
-  back_posted : (label : Label) → index_of q label ≡ None → FreshOf q s → FreshBy q (LateOf s) s.sender.flight (flight_with s.state s.receiver.flight label) s.lane
-  back_posted label none = back_alike (flight_with s.state s.receiver.flight label) (posted_unread (index_of q) s.state s.receiver.flight label none)
+  back_posted : (label : Label) → label_index_of q label ≡ None → FreshOf q s → FreshBy q (LateOf s) s.sender.flight (flight_with s.state s.receiver.flight label) s.lane
+  back_posted label none = back_alike (flight_with s.state s.receiver.flight label) (posted_unread (label_index_of q) s.state s.receiver.flight label none)
 
   module _ {own : PairPlan} {side : Side} (place : ℕ) (label : Label) where
     out_without : MayLand own side s Sender place label → write_of q label ≡ None → FreshOf q s → FreshBy q (LateOf s) (remove s.sender.flight place) s.receiver.flight s.lane
     out_without may none = out_alike (remove s.sender.flight place) (filter_map-remove (write_of q) s.sender.flight place label may.there none)
 
-    back_without : MayLand own side s Receiver place label → index_of q label ≡ None → FreshOf q s → FreshBy q (LateOf s) s.sender.flight (remove s.receiver.flight place) s.lane
-    back_without may none = back_alike (remove s.receiver.flight place) (filter_map-remove (index_of q) s.receiver.flight place label may.there none)
+    back_without : MayLand own side s Receiver place label → label_index_of q label ≡ None → FreshOf q s → FreshBy q (LateOf s) s.sender.flight (remove s.receiver.flight place) s.lane
+    back_without may none = back_alike (remove s.receiver.flight place) (filter_map-remove (label_index_of q) s.receiver.flight place label may.there none)
 
     -- a fresh lane has no write in flight, and no index write
     pub no_write : (write : Write) → MayLand own side s Sender place label → write_of q label ≡ Some write → FreshOf q s → LateOf s → ⊥
     no_write write may is h one = some_read (write_of q) s.sender.flight place label write may.there is (h one).no_writes
 
-    pub no_index : (n : ℕ) → MayLand own side s Receiver place label → index_of q label ≡ Some n → FreshOf q s → LateOf s → ⊥
-    no_index n may is h one = some_read (index_of q) s.receiver.flight place label n may.there is (h one).no_indexes
+    pub no_index : (n : ℕ) → MayLand own side s Receiver place label → label_index_of q label ≡ Some n → FreshOf q s → LateOf s → ⊥
+    no_index n may is h one = some_read (label_index_of q) s.receiver.flight place label n may.there is (h one).no_indexes
 
   -- it has nothing to post, and its receiver is idle
   pub no_todo : (label : Label) (rest : List Label) → s.lane.todo ≡ label ∷ rest → FreshOf q s → LateOf s → ⊥
@@ -138,7 +138,7 @@ module _ (q : ℕ) (s : Sight) where
   not_in_phase test elsewhere turn h one = both_ways (test s.lane.phase) (ap (λ (l : LanePart). test l.phase) (h one).fresh ∙ elsewhere) turn
 
 -- An index write on a queue is read there as the number of the entry that it gives back.
-pub own_index : (q n : ℕ) → index_of q (Index q n) ≡ Some n
+pub own_index : (q n : ℕ) → label_index_of q (Index q n) ≡ Some n
 own_index q n = cond-true (q == q) (Some n) None (eq-eqb q q refl)
 
 -- On an ordinary pair each turn keeps a lane fresh, nothing of it in flight, until both sides came up in the session.

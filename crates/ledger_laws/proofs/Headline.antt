@@ -10,7 +10,7 @@ use Rattle.step_kinds.specs.declared.steps.Answer.TheVariants.{Nothing}
 use Rattle.step_kinds.specs.declared.steps.Step.{Step}
 use Rattle.step_kinds.specs.declared.steps.Step.TheVariants.{Relay, Xnext}
 use Rattle.ledger_model.specs.Log.{Answered, Memories, accepted, delivered, ledger_of, log_of, room_in, up_at}
-use Rattle.ledger_laws.specs.Laws.{Begins, NumberedFrom, entries_needed, is_again, is_link_down, lane_begun_by, needs_link, refused_earlier, times_of}
+use Rattle.ledger_laws.specs.Laws.{LogBegins, NumberedFrom, entries_needed, is_again, is_link_down, lane_begun_by, needs_link, refused_earlier, times_of}
 use Rattle.ledger_laws.proofs.AgainWhereNoRoom.{again_where_no_room}
 use Rattle.ledger_laws.proofs.FramesInOrder.{every_frame_comes_once, every_log_is_in_order}
 use Rattle.ledger_laws.proofs.LinkDownWhereNotUp.{link_down_where_not_up}
@@ -44,8 +44,8 @@ frames_come_in_order plan memories steps lane session ordinary =
     let taken = same.same_accepted lane session in
     record {
       prefix =
-          subst (λ xs. Begins xs (accepted plan (switch_log plan memories steps) lane session)) (sym given)
-          (subst (λ ys. Begins (delivered plan (log_of plan memories (bridge_steps plan memories steps)) lane session) ys) (sym taken) known.prefix);
+          subst (λ xs. LogBegins xs (accepted plan (switch_log plan memories steps) lane session)) (sym given)
+          (subst (λ ys. LogBegins (delivered plan (log_of plan memories (bridge_steps plan memories steps)) lane session) ys) (sym taken) known.prefix);
       accepted_numbers = subst (NumberedFrom 0) (sym taken) known.accepted_numbers;
       delivered_numbers = subst (NumberedFrom 0) (sym given) known.delivered_numbers;
     }

@@ -10,7 +10,7 @@ use Rattle.lane_model.specs.Lane.{Entry, Carries, GoesDown, writes_of}
 use Rattle.lane_model.specs.declared.Field.TheVariants.{Chunk as PayloadChunk, Length, Version}
 use Rattle.lane_model.specs.declared.Write.{Write}
 use Rattle.lane_model.specs.declared.Write.TheVariants.{Data, Flag as EntryFlag, Bell as QueueBell}
-use Rattle.ledger_model.specs.Labels.{label_of, labels_of, write_of, index_of, writes_among}
+use Rattle.ledger_model.specs.Labels.{label_of, labels_of, write_of, label_index_of, writes_among}
 use Rattle.order_rules.specs.Order.{strict}
 use Rattle.pair_model.specs.Orders.{classes_of, kind_of, order_of}
 use Rattle.step_kinds.specs.declared.names.Side.{Side}
@@ -78,7 +78,7 @@ write_class own side q (Down p n) write e = ap (slice_index (classes_of own side
 write_class own side q (Bell p) write e = ap (slice_index (classes_of own side)) (queue_is p q _ write e)
 write_class own side q label write e = absurd (none-some write e)
 
-index_class : (own : PairPlan) (side : Side) (q : ℕ) (label : Label) (n : ℕ) → index_of q label ≡ Some n → (order_of own side label).class ≡ slice_index (classes_of own side) q
+index_class : (own : PairPlan) (side : Side) (q : ℕ) (label : Label) (n : ℕ) → label_index_of q label ≡ Some n → (order_of own side label).class ≡ slice_index (classes_of own side) q
 index_class own side q (Index p m) n e = ap (slice_index (classes_of own side)) (queue_is p q m n e)
 index_class own side q label n e = absurd (none-some n e)
 
@@ -91,5 +91,5 @@ pub writes_one_class : (own : PairPlan) (side : Side) (q : ℕ) (label : Label) 
 writes_one_class own side q label write is other y some = write_class own side q other y some ∙ sym (write_class own side q label write is)
 
 -- All index writes that a side posts on a queue have one traffic class.
-pub indexes_one_class : (own : PairPlan) (side : Side) (q : ℕ) (label : Label) (n : ℕ) → index_of q label ≡ Some n → ReadsOneClass (index_of q) own side label
+pub indexes_one_class : (own : PairPlan) (side : Side) (q : ℕ) (label : Label) (n : ℕ) → label_index_of q label ≡ Some n → ReadsOneClass (label_index_of q) own side label
 indexes_one_class own side q label n is other y some = index_class own side q other y some ∙ sym (index_class own side q label n is)

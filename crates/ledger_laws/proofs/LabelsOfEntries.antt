@@ -17,7 +17,7 @@ use Rattle.lane_model.specs.Law.{entry_among}
 use Rattle.lane_model.specs.declared.Field.TheVariants.{Chunk as PayloadChunk, Length, Version}
 use Rattle.lane_model.specs.declared.Write.{Write}
 use Rattle.lane_model.specs.declared.Write.TheVariants.{Data, Flag as EntryFlag, Bell as QueueBell}
-use Rattle.ledger_model.specs.Labels.{label_of, labels_of, write_of, index_of}
+use Rattle.ledger_model.specs.Labels.{label_of, labels_of, write_of, label_index_of}
 use Rattle.ledger_model.specs.Ledger.{LanePart, PairPart, side_of, lane_of}
 use Rattle.ledger_model.specs.Log.{Answered, ledger_of}
 use Rattle.ledger_model.specs.Next.{fresh_pair}
@@ -88,12 +88,12 @@ IsToPost q sent label = IsOnQueue q label × IsOfEntry sent label
 
 -- an index write of this lane is of one of this many entries
 abbrev IsGiven : ℕ → ℕ → Label → Type 0
-IsGiven q acked label = (n : ℕ) → index_of q label ≡ Some n → n < acked
+IsGiven q acked label = (n : ℕ) → label_index_of q label ≡ Some n → n < acked
 
 foreign_own : (q : ℕ) (sent : List Entry) (label : Label) → write_of q label ≡ None → IsOwn q sent label
 foreign_own q sent label none on = absurd (on_queue-read q label on none)
 
-foreign_given : (q acked : ℕ) (label : Label) → index_of q label ≡ None → IsGiven q acked label
+foreign_given : (q acked : ℕ) (label : Label) → label_index_of q label ≡ None → IsGiven q acked label
 foreign_given q acked label none n some = absurd (none-some n (sym none ∙ some))
 
 pad_own : (q : ℕ) (sent : List Entry) (label : Label) → is_pad label ≡ true → IsOwn q sent label

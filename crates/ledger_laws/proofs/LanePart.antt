@@ -9,7 +9,7 @@ use Rattle.step_kinds.specs.declared.plan.PairPlan.{PairPlan}
 use Rattle.step_kinds.specs.declared.steps.Label.{Label}
 use Rattle.step_kinds.specs.declared.steps.Label.TheVariants.{Chunk, Len, Ver, Flag, Down, Bell, Index}
 use Rattle.lane_model.specs.declared.Write.{Write}
-use Rattle.ledger_model.specs.Labels.{write_of, index_of}
+use Rattle.ledger_model.specs.Labels.{write_of, label_index_of}
 use Rattle.order_rules.specs.Order.{Order, lands_behind, passes, relaxed, strict}
 use Rattle.pair_model.specs.Orders.{kind_of, order_of}
 use Rattle.ledger_laws.specs.Landing.{kind_of_write, by_kind, LandsInPart, LanePartLands}
@@ -82,7 +82,7 @@ write_kind false q (Down p n) write some = means (p == q) _ write _ refl some
 write_kind false q (Bell p) write some = means (p == q) _ write _ refl some
 write_kind false q label write some = absurd (none-some write some)
 
-index_kind : (strict_pair : Bool) (q : ℕ) (label : Label) (n : ℕ) → index_of q label ≡ Some n → kind_of strict_pair label ≡ strict
+index_kind : (strict_pair : Bool) (q : ℕ) (label : Label) (n : ℕ) → label_index_of q label ≡ Some n → kind_of strict_pair label ≡ strict
 index_kind true q label n some = refl
 index_kind false q (Index p m) n some = refl
 index_kind false q label n some = absurd (none-some n some)
@@ -91,5 +91,5 @@ index_kind false q label n some = absurd (none-some n some)
 pub lane_part_lands : LanePartLands
 lane_part_lands plan side q flight place label at may = record {
   write = λ own is. lands_in (write_of q) (kind_of_write plan.strict) plan side label own is (writes_one_class plan side q label own is) (write_kind plan.strict q) flight place at may;
-  index = λ n is. lands_in (index_of q) (λ n. strict) plan side label n is (indexes_one_class plan side q label n is) (index_kind plan.strict q) flight place at may;
+  index = λ n is. lands_in (label_index_of q) (λ n. strict) plan side label n is (indexes_one_class plan side q label n is) (index_kind plan.strict q) flight place at may;
 }

@@ -22,11 +22,11 @@ use Rattle.lane_model.specs.declared.Phase.TheVariants.{Idle, Copied}
 use Rattle.lane_model.specs.declared.Write.{Write}
 use Rattle.lane_model.specs.declared.Write.TheVariants.{Data, Flag as EntryFlag, Bell as QueueBell}
 use Rattle.lane_laws.proofs.Facade.{free_is_room}
-use Rattle.ledger_model.specs.Labels.{labels_of, write_of, index_of, writes_among, indexes_among}
+use Rattle.ledger_model.specs.Labels.{labels_of, write_of, label_index_of, writes_among, indexes_among}
 use Rattle.ledger_model.specs.Ledger.{LanePart}
 use Rattle.ledger_model.specs.Log.{Answered}
 use Rattle.ledger_model.specs.Receiving.{is_copying, is_cleared}
-use Rattle.ledger_model.specs.Rings.{RingPart, lane_shown}
+use Rattle.ledger_model.specs.Rings.{RingPart, ledger_lane_shown}
 use Rattle.pair_model.specs.Link.{is_up}
 use Rattle.pair_model.specs.Pads.{links_pad}
 use Rattle.pair_model.specs.Sizes.{Sizes}
@@ -68,7 +68,7 @@ own_write q label on = absurd (false≢true on)
 
 -- the lane that a sight and a ring show
 abbrev pub Shown : Sizes → ℕ → Sight → RingPart → Lane
-Shown sizes q s ring = lane_shown sizes q (is_up s.state) (writes_among q s.sender.flight) (indexes_among q s.receiver.flight) s.lane ring
+Shown sizes q s ring = ledger_lane_shown sizes q (is_up s.state) (writes_among q s.sender.flight) (indexes_among q s.receiver.flight) s.lane ring
 
 module _ (sizes : Sizes) (q : ℕ) (s : Sight) (ring : RingPart) where
   abbrev Writes : List Write
@@ -82,7 +82,7 @@ module _ (sizes : Sizes) (q : ℕ) (s : Sight) (ring : RingPart) where
   Before = Shown sizes q s ring
 
   abbrev With : List Write → List ℕ → LanePart → RingPart → Lane
-  With writes indexes lane after = lane_shown sizes q (is_up s.state) writes indexes lane after
+  With writes indexes lane after = ledger_lane_shown sizes q (is_up s.state) writes indexes lane after
 
   -- lists in flight that show the same of the lane
   out_alike : (flight : List Label) → writes_among q flight ≡ Writes → MovesByLaneSteps Unchanged Before (With (writes_among q flight) Indexes s.lane ring)
@@ -95,8 +95,8 @@ module _ (sizes : Sizes) (q : ℕ) (s : Sight) (ring : RingPart) where
   out_posted : (label : Label) → write_of q label ≡ None → MovesByLaneSteps Unchanged Before (With (writes_among q (flight_with s.state s.sender.flight label)) Indexes s.lane ring)
   out_posted label none = out_alike (flight_with s.state s.sender.flight label) (posted_unread (write_of q) s.state s.sender.flight label none)
 
-  back_posted : (label : Label) → index_of q label ≡ None → MovesByLaneSteps Unchanged Before (With Writes (indexes_among q (flight_with s.state s.receiver.flight label)) s.lane ring)
-  back_posted label none = back_alike (flight_with s.state s.receiver.flight label) (posted_unread (index_of q) s.state s.receiver.flight label none)
+  back_posted : (label : Label) → label_index_of q label ≡ None → MovesByLaneSteps Unchanged Before (With Writes (indexes_among q (flight_with s.state s.receiver.flight label)) s.lane ring)
+  back_posted label none = back_alike (flight_with s.state s.receiver.flight label) (posted_unread (label_index_of q) s.state s.receiver.flight label none)
 
   -- The sender
 
@@ -169,12 +169,12 @@ module _ (sizes : Sizes) (q : ℕ) (s : Sight) (ring : RingPart) where
     out_without : (label : Label) → MayLand own side s Sender place label → write_of q label ≡ None → MovesByLaneSteps Unchanged Before (With (writes_among q (remove s.sender.flight place)) Indexes s.lane ring)
     out_without label may none = out_alike (remove s.sender.flight place) (filter_map-remove (write_of q) s.sender.flight place label may.there none)
 
-    back_without : (label : Label) → MayLand own side s Receiver place label → index_of q label ≡ None → MovesByLaneSteps Unchanged Before (With Writes (indexes_among q (remove s.receiver.flight place)) s.lane ring)
-    back_without label may none = back_alike (remove s.receiver.flight place) (filter_map-remove (index_of q) s.receiver.flight place label may.there none)
+    back_without : (label : Label) → MayLand own side s Receiver place label → label_index_of q label ≡ None → MovesByLaneSteps Unchanged Before (With Writes (indexes_among q (remove s.receiver.flight place)) s.lane ring)
+    back_without label may none = back_alike (remove s.receiver.flight place) (filter_map-remove (label_index_of q) s.receiver.flight place label may.there none)
 
     index_first : (n : ℕ) → MayLand own side s Receiver place (Index q n) → Indexes ≡ n ∷ indexes_among q (remove s.receiver.flight place)
     index_first n may =
-        lands_first (index_of q) own side (Index q n) (index_strict own.strict q n) (indexes_one_class own side q (Index q n) n (own_index q n)) s Receiver place n may (own_index q n)
+        lands_first (label_index_of q) own side (Index q n) (index_strict own.strict q n) (indexes_one_class own side q (Index q n) n (own_index q n)) s Receiver place n may (own_index q n)
 
   -- The receiver
 
@@ -202,7 +202,7 @@ module _ (sizes : Sizes) (q : ℕ) (s : Sight) (ring : RingPart) where
   acks turn = (
     phase_cleared s.lane.phase turn,
     ap (λ indexes. With Writes indexes (record s.lane { acked = s.lane.acked + 1; phase = Idle }) ring)
-        (posted_read (index_of q) s.state s.receiver.flight (Index q s.lane.acked) s.lane.acked (own_index q s.lane.acked)),
+        (posted_read (label_index_of q) s.state s.receiver.flight (Index q s.lane.acked) s.lane.acked (own_index q s.lane.acked)),
   )
 
 -- Each turn
@@ -222,7 +222,7 @@ turn_moves plan lane s made news t ring two no_raw (Trains may) sides fits leave
 turn_moves plan lane s made news t ring two no_raw (Breaks may) sides fits leaves law up still = moves Cut refl (may.up, refl)
 turn_moves plan lane s made news t ring two no_raw (Drops may) sides fits leaves law up still =
     let lost = closing-not_up s.state may.closing in
-    moves Drop refl (lost, ap (λ b. lane_shown (SizesOf plan lane) lane.queue b [] [] s.lane ring) (sym lost))
+    moves Drop refl (lost, ap (λ b. ledger_lane_shown (SizesOf plan lane) lane.queue b [] [] s.lane ring) (sym lost))
 turn_moves plan lane s made news t ring two no_raw (Forgets Sender may) sides fits leaves law up still = absurd (false≢true still.sender)
 turn_moves plan lane s made news t ring two no_raw (Forgets Receiver may) sides fits leaves law up still = absurd (false≢true still.receiver)
 turn_moves plan lane s made news t ring two no_raw (Offers Sender label may) sides fits leaves law up still =

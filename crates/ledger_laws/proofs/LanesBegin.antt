@@ -18,7 +18,7 @@ use Rattle.ledger_model.specs.Ledger.{LanePart, link_up}
 use Rattle.ledger_model.specs.LinkSteps.{fresh_lane}
 use Rattle.ledger_model.specs.Log.{Answered, answered, log_of, ledger_of}
 use Rattle.ledger_model.specs.Next.{Ledger, ledger_after}
-use Rattle.ledger_model.specs.Rings.{RingPart, lane_shown, ring_of}
+use Rattle.ledger_model.specs.Rings.{RingPart, ledger_lane_shown, ring_of}
 use Rattle.pair_model.specs.Plans.{pair_plan}
 use Rattle.pair_model.specs.Sizes.{Sizes}
 use Rattle.ledger_laws.specs.Laws.{IsOrdinaryOn}
@@ -37,11 +37,11 @@ use Rattle.ledger_laws.proofs.walk.Turn.{Turn, Checks, Forgets, SizesOf}
 
 -- what is shown of a lane in which nothing was begun, and of which the law of the ring holds
 shown_fresh : (sizes : Sizes) (q : ℕ) (up : Bool) (writes : List Write) (indexes : List ℕ) (lane : LanePart) (ring : RingPart) → IsFreshLane writes indexes lane
-    → HoldsRingLaw (lane_shown sizes q up writes indexes lane ring) → IsFresh (lane_shown sizes q up writes indexes lane ring)
+    → HoldsRingLaw (ledger_lane_shown sizes q up writes indexes lane ring) → IsFresh (ledger_lane_shown sizes q up writes indexes lane ring)
 shown_fresh sizes q up writes indexes lane ring fresh =
-    subst (λ (l : LanePart). HoldsRingLaw (lane_shown sizes q up writes indexes l ring) → IsFresh (lane_shown sizes q up writes indexes l ring)) (sym fresh.fresh) new
+    subst (λ (l : LanePart). HoldsRingLaw (ledger_lane_shown sizes q up writes indexes l ring) → IsFresh (ledger_lane_shown sizes q up writes indexes l ring)) (sym fresh.fresh) new
   where
-    new : HoldsRingLaw (lane_shown sizes q up writes indexes fresh_lane ring) → IsFresh (lane_shown sizes q up writes indexes fresh_lane ring)
+    new : HoldsRingLaw (ledger_lane_shown sizes q up writes indexes fresh_lane ring) → IsFresh (ledger_lane_shown sizes q up writes indexes fresh_lane ring)
     new law = record {
       two_entries = law.2.room.two_entries;
       slots = law.2.room.slots;

@@ -9,7 +9,7 @@ use Rattle.step_kinds.specs.declared.steps.Label.{Label}
 use Rattle.step_kinds.specs.declared.steps.Label.TheVariants.{Pad}
 use Rattle.lane_model.specs.Lane.{count_from}
 use Rattle.pair_model.specs.Pads.{offers, word}
-use Rattle.ledger_model.specs.Labels.{write_of, index_of}
+use Rattle.ledger_model.specs.Labels.{write_of, label_index_of}
 use Rattle.pair_model.specs.Pads.{high_pad, low_pad, queues_pad, version_pad, windows_pad}
 use Rattle.ledger_laws.proofs.walk.Turn.{is_pad, is_link_pad}
 use Rattle.std.proofs.lemmas.List.{take-append-drop}
@@ -94,7 +94,7 @@ offer-no_link own n =
     (λ k below. (ap not (ne_eqb (high_pad k) 1 (λ e. omega arith)), ap not (ne_eqb (low_pad k) 1 (λ e. omega arith)))) refl refl n)
 
 -- a scratchpad is no write of a lane
-pub pad-index : (q : ℕ) (label : Label) → is_pad label ≡ true → index_of q label ≡ None
+pub pad-index : (q : ℕ) (label : Label) → is_pad label ≡ true → label_index_of q label ≡ None
 pad-index q (Pad i value) is = refl
 pad-index q label is = absurd (false≢true is)
 

@@ -7,7 +7,7 @@ use Rattle.std.proofs.lemmas.Option.{slice_get-map}
 use Rattle.pair_model.specs.Switch.{Switch, after, after_relay, answer_of, arrived, fdb_after, first, flooded, forwarded, frame_answer, joined, list_of, new_switch, relay_answer, sent, without_first}
 use Rattle.pair_model.specs.declared.RelayAnswer.{RelayAnswer}
 use Rattle.pair_model.specs.declared.RelayAnswer.TheVariants.{Nothing, Short, Filtered, To, Flood}
-use Rattle.ledger_laws.specs.Erased.{with_frames}
+use Rattle.ledger_laws.specs.Erased.{switch_with_frames}
 
 module _ {F G : Type 0} (change : F → G) where
   list_of-map : (lists : List (List F)) (port : ℕ) → list_of (map (map change) lists) port ≡ map change (list_of lists port)
@@ -46,22 +46,22 @@ module _ {F G : Type 0} (change : F → G) where
   forwarded-map waiting port frame (To target) = joined-map waiting target frame
   forwarded-map waiting port frame (Flood count) = flooded-map waiting port frame
 
-  pub new-with_frames : (ports : ℕ) → with_frames change (new_switch ports) ≡ new_switch ports
+  pub new-with_frames : (ports : ℕ) → switch_with_frames change (new_switch ports) ≡ new_switch ports
   new-with_frames ports = ap (λ lists. record { inboxes = lists; waiting = lists; fdb = [] }) (none ports)
     where
       none : (n : ℕ) → map (map change) (replicate n []) ≡ replicate n []
       none zero = refl
       none (suc n) = ap (λ lists. [] ∷ lists) (none n)
 
-  pub arrived-with_frames : (switch : Switch F) (port : ℕ) (frame : F) → with_frames change (arrived switch port frame) ≡ arrived (with_frames change switch) port (change frame)
+  pub arrived-with_frames : (switch : Switch F) (port : ℕ) (frame : F) → switch_with_frames change (arrived switch port frame) ≡ arrived (switch_with_frames change switch) port (change frame)
   arrived-with_frames switch port frame =
       ap (λ lists. record { inboxes = lists; waiting = map (map change) switch.waiting; fdb = switch.fdb }) (joined-map switch.inboxes port frame)
 
-  pub sent-with_frames : (switch : Switch F) (port : ℕ) → with_frames change (sent switch port) ≡ sent (with_frames change switch) port
+  pub sent-with_frames : (switch : Switch F) (port : ℕ) → switch_with_frames change (sent switch port) ≡ sent (switch_with_frames change switch) port
   sent-with_frames switch port =
       ap (λ lists. record { inboxes = map (map change) switch.inboxes; waiting = lists; fdb = switch.fdb }) (without_first-map switch.waiting port)
 
-  pub first-with_frames : (switch : Switch F) (port : ℕ) → first (with_frames change switch) port ≡ option_map change (first switch port)
+  pub first-with_frames : (switch : Switch F) (port : ℕ) → first (switch_with_frames change switch) port ≡ option_map change (first switch port)
   first-with_frames switch port = ap (λ list. slice_get list 0) (list_of-map switch.waiting port) ∙ slice_get-map change (list_of switch.waiting port) 0
 
   relayed-with_frames : (switch : Switch F) (port : ℕ) → slice_get (list_of (map (map change) switch.inboxes) port) 0 ≡ option_map change (slice_get (list_of switch.inboxes port) 0)
@@ -74,11 +74,11 @@ module _ {F G : Type 0} (change : F → G) where
         ap (λ ports. frame_answer ports switch.fdb port (other_bytes (change frame))) (length-map switch.waiting (map change))
         ∙ ap (frame_answer (length switch.waiting) switch.fdb port) (same frame)
 
-    answer_of-change : (switch : Switch F) (port : ℕ) (o : Option F) → answer_of other_bytes (with_frames change switch) port (option_map change o) ≡ answer_of bytes_of switch port o
+    answer_of-change : (switch : Switch F) (port : ℕ) (o : Option F) → answer_of other_bytes (switch_with_frames change switch) port (option_map change o) ≡ answer_of bytes_of switch port o
     answer_of-change switch port None = refl
     answer_of-change switch port (Some frame) = same_answer switch port frame
 
-    after-change : (switch : Switch F) (port : ℕ) (o : Option F) → with_frames change (after bytes_of switch port o) ≡ after other_bytes (with_frames change switch) port (option_map change o)
+    after-change : (switch : Switch F) (port : ℕ) (o : Option F) → switch_with_frames change (after bytes_of switch port o) ≡ after other_bytes (switch_with_frames change switch) port (option_map change o)
     after-change switch port None = refl
     after-change switch port (Some frame) =
         let answer = frame_answer (length switch.waiting) switch.fdb port (bytes_of frame) in
@@ -93,11 +93,11 @@ module _ {F G : Type 0} (change : F → G) where
           fdb = fdb_after switch.fdb port bytes;
         }) (sym (same frame))
 
-    pub relay_answer-with_frames : (switch : Switch F) (port : ℕ) → relay_answer other_bytes (with_frames change switch) port ≡ relay_answer bytes_of switch port
+    pub relay_answer-with_frames : (switch : Switch F) (port : ℕ) → relay_answer other_bytes (switch_with_frames change switch) port ≡ relay_answer bytes_of switch port
     relay_answer-with_frames switch port =
-        ap (answer_of other_bytes (with_frames change switch) port) (relayed-with_frames switch port) ∙ answer_of-change switch port (slice_get (list_of switch.inboxes port) 0)
+        ap (answer_of other_bytes (switch_with_frames change switch) port) (relayed-with_frames switch port) ∙ answer_of-change switch port (slice_get (list_of switch.inboxes port) 0)
 
-    pub after_relay-with_frames : (switch : Switch F) (port : ℕ) → with_frames change (after_relay bytes_of switch port) ≡ after_relay other_bytes (with_frames change switch) port
+    pub after_relay-with_frames : (switch : Switch F) (port : ℕ) → switch_with_frames change (after_relay bytes_of switch port) ≡ after_relay other_bytes (switch_with_frames change switch) port
     after_relay-with_frames switch port =
         after-change switch port (slice_get (list_of switch.inboxes port) 0)
-        ∙ ap (after other_bytes (with_frames change switch) port) (sym (relayed-with_frames switch port))
+        ∙ ap (after other_bytes (switch_with_frames change switch) port) (sym (relayed-with_frames switch port))

@@ -22,7 +22,7 @@ use Rattle.pair_model.specs.Headers.{word_bytes}
 use Rattle.pair_model.specs.RingWrites.{index_write, store_of_write}
 use Rattle.pair_model.specs.Stores.{Store}
 use Rattle.pair_model.proofs.Facade.{bytes_stored, length-word_bytes, word_stored, number_of, Leaves, Gives, leaves_both, gives_later, leaves_each, gives_among, leaves_mapped, gives_mapped}
-use Rattle.ledger_model.specs.Labels.{index_of as index_in}
+use Rattle.ledger_model.specs.Labels.{label_index_of as index_in}
 use Rattle.ledger_model.specs.Ledger.{PairPart}
 use Rattle.ledger_model.specs.Rings.{with_index, without_header}
 use Rattle.ledger_model.specs.Memory.{stored}

@@ -8,7 +8,7 @@ use Rattle.step_kinds.specs.declared.names.LaneName.{LaneName}
 use Rattle.step_kinds.specs.declared.plan.Plan.{Plan}
 use Rattle.step_kinds.specs.declared.steps.Step.{Step}
 use Rattle.ledger_model.specs.Log.{Answered, Memories, Numbered, accepted, accepts, delivered, delivers, first_session, log_of}
-use Rattle.ledger_laws.specs.Laws.{Begins, IsOrdinaryPair}
+use Rattle.ledger_laws.specs.Laws.{LogBegins, IsOrdinaryPair}
 use Rattle.ledger_laws.proofs.FramesInOrder.{every_log_is_in_order}
 use Rattle.ledger_model.specs.NetworkLog.{traced_network}
 use Rattle.ledger_model.specs.Origins.{Carried, Origin, Passage}
@@ -32,7 +32,7 @@ part-stricter p q (x ∷ xs) = by (p x) (q x) (part-stricter p q xs)
     by false true h = Drops x h
     by false false h = h
 
-stands-prefix : (f : Numbered) (xs ys : List Numbered) → Begins xs ys → StandsIn f xs → StandsIn f ys
+stands-prefix : (f : Numbered) (xs ys : List Numbered) → LogBegins xs ys → StandsIn f xs → StandsIn f ys
 stands-prefix f xs ys begins s = subst (StandsIn f) (sym begins.1) (stands-append f xs begins.0 s)
 
 each_stands : {A : Type 0} (xs ys : List A) → IsPartOf xs ys → AllByRecursion (λ x. StandsIn x ys) xs

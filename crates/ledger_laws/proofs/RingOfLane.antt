@@ -24,11 +24,11 @@ use Rattle.lane_model.specs.declared.Phase.TheVariants.{Idle, Copying, Copied, C
 use Rattle.lane_model.specs.declared.Write.{Write}
 use Rattle.lane_model.specs.declared.Write.TheVariants.{Data, Flag as EntryFlag, Bell as QueueBell}
 use Rattle.lane_laws.proofs.Facade.{empty_holds, cut_keeps, drop_keeps, forget_keeps, free_is_room, begin_keeps, post_keeps, land_data_keeps, land_flag_keeps, land_bell_keeps, look_keeps, copy_keeps, clear_keeps, ack_keeps, index_keeps, tail_after}
-use Rattle.ledger_model.specs.Labels.{labels_of, write_of, index_of, writes_among, indexes_among}
+use Rattle.ledger_model.specs.Labels.{labels_of, write_of, label_index_of, writes_among, indexes_among}
 use Rattle.ledger_model.specs.Ledger.{LanePart}
 use Rattle.ledger_model.specs.Log.{Answered}
 use Rattle.ledger_model.specs.Receiving.{is_idle, is_copying, is_copied, is_cleared}
-use Rattle.ledger_model.specs.Rings.{RingPart, lane_shown, without_header}
+use Rattle.ledger_model.specs.Rings.{RingPart, ledger_lane_shown, without_header}
 use Rattle.pair_model.specs.Link.{is_up, is_down}
 use Rattle.pair_model.specs.Pads.{links_pad}
 use Rattle.pair_model.specs.Sizes.{Sizes}
@@ -46,7 +46,7 @@ use Rattle.ledger_laws.proofs.walk.Turn.{MayLand, Turn, Trains, Breaks, Drops, F
 
 -- the lane that is shown, with its index word read as the tail
 abbrev pub tailed : Sizes → ℕ → Bool → List Write → List ℕ → LanePart → RingPart → Lane
-tailed sizes q up writes indexes lane ring = lane_shown sizes q up writes indexes lane (with_tail sizes lane ring)
+tailed sizes q up writes indexes lane ring = ledger_lane_shown sizes q up writes indexes lane (with_tail sizes lane ring)
 
 abbrev pub LawBy : Sizes → ℕ → Bool → Bool → List Write → List ℕ → LanePart → RingPart → Type 0
 LawBy sizes q up receiver_up writes indexes lane ring = receiver_up ≡ true → HoldsRingLaw (tailed sizes q up writes indexes lane ring)
@@ -169,8 +169,8 @@ module _ (sizes : Sizes) (q : ℕ) (s : Sight) (ring : RingPart) where
   out_posted : (label : Label) → write_of q label ≡ None → HoldsRingLaw Before → HoldsRingLaw (With (writes_among q (flight_with s.state s.sender.flight label)) Indexes s.lane ring)
   out_posted label none = out_alike (flight_with s.state s.sender.flight label) (posted_unread (write_of q) s.state s.sender.flight label none)
 
-  back_posted : (label : Label) → index_of q label ≡ None → HoldsRingLaw Before → HoldsRingLaw (With Writes (indexes_among q (flight_with s.state s.receiver.flight label)) s.lane ring)
-  back_posted label none = back_alike (flight_with s.state s.receiver.flight label) (posted_unread (index_of q) s.state s.receiver.flight label none)
+  back_posted : (label : Label) → label_index_of q label ≡ None → HoldsRingLaw Before → HoldsRingLaw (With Writes (indexes_among q (flight_with s.state s.receiver.flight label)) s.lane ring)
+  back_posted label none = back_alike (flight_with s.state s.receiver.flight label) (posted_unread (label_index_of q) s.state s.receiver.flight label none)
 
   -- The sender
 
@@ -235,9 +235,9 @@ module _ (sizes : Sizes) (q : ℕ) (s : Sight) (ring : RingPart) where
     out_without : (label : Label) → MayLand own side s Sender place label → write_of q label ≡ None → HoldsRingLaw Before → HoldsRingLaw (With (writes_among q (remove s.sender.flight place)) Indexes s.lane ring)
     out_without label may none = out_alike (remove s.sender.flight place) (filter_map-remove (write_of q) s.sender.flight place label may.there none)
 
-    back_without : (label : Label) → MayLand own side s Receiver place label → index_of q label ≡ None → HoldsRingLaw Before
+    back_without : (label : Label) → MayLand own side s Receiver place label → label_index_of q label ≡ None → HoldsRingLaw Before
         → HoldsRingLaw (With Writes (indexes_among q (remove s.receiver.flight place)) s.lane ring)
-    back_without label may none = back_alike (remove s.receiver.flight place) (filter_map-remove (index_of q) s.receiver.flight place label may.there none)
+    back_without label may none = back_alike (remove s.receiver.flight place) (filter_map-remove (label_index_of q) s.receiver.flight place label may.there none)
 
     index_lands : (n : ℕ) → 2 ≤ sizes.entries → MayLand own side s Receiver place (Index q n) → HoldsRingLaw Before
         → HoldsRingLaw (With Writes (indexes_among q (remove s.receiver.flight place)) (record s.lane { freed = n + 1 }) ring)
@@ -245,7 +245,7 @@ module _ (sizes : Sizes) (q : ℕ) (s : Sight) (ring : RingPart) where
         let rest = indexes_among q (remove s.receiver.flight place) in
         subst (λ word. HoldsRingLaw (record (after_index Before n rest) { index_word = word })) (tail_after sizes.entries n two)
         (index_keeps Before n rest
-        (lands_first (index_of q) own side (Index q n) (index_strict own.strict q n) (indexes_one_class own side q (Index q n) n (own_index q n)) s Receiver place n may (own_index q n)) law)
+        (lands_first (label_index_of q) own side (Index q n) (index_strict own.strict q n) (indexes_one_class own side q (Index q n) n (own_index q n)) s Receiver place n may (own_index q n)) law)
 
   -- The receiver
 
@@ -271,7 +271,7 @@ module _ (sizes : Sizes) (q : ℕ) (s : Sight) (ring : RingPart) where
       → HoldsRingLaw (With Writes (indexes_among q (flight_with s.state s.receiver.flight (Index q s.lane.acked))) (record s.lane { acked = s.lane.acked + 1; phase = Idle }) ring)
   acks turn law =
       subst (λ indexes. HoldsRingLaw (With Writes indexes (record s.lane { acked = s.lane.acked + 1; phase = Idle }) ring))
-      (sym (posted_read (index_of q) s.state s.receiver.flight (Index q s.lane.acked) s.lane.acked (own_index q s.lane.acked)))
+      (sym (posted_read (label_index_of q) s.state s.receiver.flight (Index q s.lane.acked) s.lane.acked (own_index q s.lane.acked)))
       (ack_keeps Before (phase_cleared s.lane.phase turn) law)
 
 -- Each turn

@@ -21,7 +21,7 @@ use Rattle.ledger_laws.proofs.JoinedSides.{closing-not_down}
 use Rattle.ledger_laws.proofs.Frames.{CarriesAt, carries-within, carries-append}
 use Rattle.ledger_laws.proofs.Pieces.{length-pieces}
 use Rattle.lane_model.specs.declared.Phase.{Phase}
-use Rattle.ledger_model.specs.Labels.{index_of, indexes_among}
+use Rattle.ledger_model.specs.Labels.{label_index_of, indexes_among}
 use Rattle.pair_model.specs.Link.{is_down, is_up}
 use Rattle.ledger_model.specs.Log.{Answered, trains, takes_room, gives_room, in_this_session, made_since, room_in}
 use Rattle.ledger_model.specs.Receiving.{is_copying, is_copied, is_cleared}
@@ -106,7 +106,7 @@ waits_acked q state freed acked back (inl up) h = record {
   waiting = suc h.waiting;
   indexes =
       ap (indexes_among q) (posted_up state back (Index q acked) up)
-      ∙ push_some (index_of q) back (Index q acked) acked (rw (eq-eqb q q refl) refl)
+      ∙ push_some (label_index_of q) back (Index q acked) acked (rw (eq-eqb q q refl) refl)
       ∙ ap (λ xs. xs ++ acked ∷ []) h.indexes ∙ ap (λ n. count_from freed h.waiting ++ n ∷ []) (sym (h.all_up up)) ∙ count_from-push freed h.waiting (freed + h.waiting) refl;
   within = let a = h.all_up up in omega arith;
   all_up = λ _. let a = h.all_up up in omega arith;
@@ -122,8 +122,8 @@ waits_acked q state freed acked back (inr down) h = record {
 pub index_first : (plan : Plan) (lane : LaneName) (s : Sight) (place n : ℕ) → MayLand (pair_plan plan lane.pair) (other_side lane.from) s Receiver place (Index lane.queue n)
     → indexes_among lane.queue s.receiver.flight ≡ n ∷ indexes_among lane.queue (remove s.receiver.flight place)
 index_first plan lane s place n may =
-    let own : index_of lane.queue (Index lane.queue n) ≡ Some n = cond-true (lane.queue == lane.queue) (Some n) None (eq-eqb lane.queue lane.queue refl) in
-    lands_first (index_of lane.queue) (pair_plan plan lane.pair) (other_side lane.from) (Index lane.queue n) (index_strict (pair_plan plan lane.pair).strict lane.queue n)
+    let own : label_index_of lane.queue (Index lane.queue n) ≡ Some n = cond-true (lane.queue == lane.queue) (Some n) None (eq-eqb lane.queue lane.queue refl) in
+    lands_first (label_index_of lane.queue) (pair_plan plan lane.pair) (other_side lane.from) (Index lane.queue n) (index_strict (pair_plan plan lane.pair).strict lane.queue n)
     (indexes_one_class (pair_plan plan lane.pair) (other_side lane.from) lane.queue (Index lane.queue n) n own) s Receiver place n may own
 
 waits_kept : (plan : Plan) (lane : LaneName) (s : Sight) (made : Answered) (news : News) (t : Sight) → IsRaw plan lane ≡ false → Turn plan lane s made news t → EmptyOf s → WaitsOf lane.queue s → WaitsOf lane.queue t
@@ -131,15 +131,15 @@ waits_kept plan lane s made news t no_raw (Trains may) empty h = waits_none _ _ 
 waits_kept plan lane s made news t no_raw (Breaks may) empty h = record { waiting = h.waiting; indexes = h.indexes; within = h.within; all_up = λ up. absurd (false≢true up) }
 waits_kept plan lane s made news t no_raw (Drops may) empty h = waits_none _ _ _ _ _ refl (let w = h.within in omega arith) (λ up. absurd (false≢true up))
 waits_kept plan lane s made news t no_raw (Offers Receiver label may) empty h =
-    waits_alike _ _ _ _ s.receiver.flight _ (posted_unread (index_of lane.queue) s.state s.receiver.flight label (pad-index lane.queue label may.a_pad)) h
-waits_kept plan lane s made news t no_raw (Readies Receiver queue may) empty h = waits_alike _ _ _ _ s.receiver.flight _ (posted_unread (index_of lane.queue) s.state s.receiver.flight _ refl) h
-waits_kept plan lane s made news t no_raw (Says Receiver label may) empty h = waits_alike _ _ _ _ s.receiver.flight _ (posted_unread (index_of lane.queue) s.state s.receiver.flight label may.foreign) h
+    waits_alike _ _ _ _ s.receiver.flight _ (posted_unread (label_index_of lane.queue) s.state s.receiver.flight label (pad-index lane.queue label may.a_pad)) h
+waits_kept plan lane s made news t no_raw (Readies Receiver queue may) empty h = waits_alike _ _ _ _ s.receiver.flight _ (posted_unread (label_index_of lane.queue) s.state s.receiver.flight _ refl) h
+waits_kept plan lane s made news t no_raw (Says Receiver label may) empty h = waits_alike _ _ _ _ s.receiver.flight _ (posted_unread (label_index_of lane.queue) s.state s.receiver.flight label may.foreign) h
 waits_kept plan lane s made news t no_raw (LandsIndex place n may) empty h =
     (waits_freed lane.queue _ _ _ n s.receiver.flight _ (index_first plan lane s place n may) h h.waiting refl).1
-waits_kept plan lane s made news t no_raw (LandsBell Receiver place queue may) empty h = waits_alike _ _ _ _ s.receiver.flight _ (filter_map-remove (index_of lane.queue) s.receiver.flight place _ may.there refl) h
-waits_kept plan lane s made news t no_raw (LandsPad Receiver place i value may) empty h = waits_alike _ _ _ _ s.receiver.flight _ (filter_map-remove (index_of lane.queue) s.receiver.flight place _ may.there refl) h
+waits_kept plan lane s made news t no_raw (LandsBell Receiver place queue may) empty h = waits_alike _ _ _ _ s.receiver.flight _ (filter_map-remove (label_index_of lane.queue) s.receiver.flight place _ may.there refl) h
+waits_kept plan lane s made news t no_raw (LandsPad Receiver place i value may) empty h = waits_alike _ _ _ _ s.receiver.flight _ (filter_map-remove (label_index_of lane.queue) s.receiver.flight place _ may.there refl) h
 waits_kept plan lane s made news t no_raw (LandsAside Receiver place label may) empty h =
-    waits_alike _ _ _ _ s.receiver.flight _ (filter_map-remove (index_of lane.queue) s.receiver.flight place label may.land.there may.foreign) h
+    waits_alike _ _ _ _ s.receiver.flight _ (filter_map-remove (label_index_of lane.queue) s.receiver.flight place label may.land.there may.foreign) h
 waits_kept plan lane s made news t no_raw (Acks may) empty h = waits_acked lane.queue s.state s.lane.freed s.lane.acked s.receiver.flight (cases_Bool (is_up s.state)) h
 waits_kept plan lane s made news t no_raw (Strays after may) empty h = absurd (both_ways (IsRaw plan lane) no_raw may.raw_pair)
 waits_kept plan lane s made news t no_raw turn empty h = h

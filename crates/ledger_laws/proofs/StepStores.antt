@@ -21,7 +21,7 @@ use Rattle.pair_model.specs.Plans.{side_plan}
 use Rattle.pair_model.specs.Sizes.{Sizes, layout_of, sizes_of}
 use Rattle.pair_model.specs.FreshRings.{zeroed_flags}
 use Rattle.pair_model.specs.Stores.{Store}
-use Rattle.ledger_model.specs.Labels.{write_of, index_of}
+use Rattle.ledger_model.specs.Labels.{write_of, label_index_of}
 use Rattle.ledger_model.specs.Ledger.{LanePart, PairPart, side_of, lane_of}
 use Rattle.ledger_model.specs.Receiving.{raws_before}
 use Rattle.ledger_model.specs.Rings.{RingPart, ring_next, with_write, with_index, without_header}
@@ -42,7 +42,7 @@ module _ (sizes : Sizes) (name : LaneName) (lane : LanePart) (now : RingPart) wh
   LandedRing from label =
       if same_side from name.from
       then record { ring = with_write sizes.entries lane now.ring (write_of name.queue label); index_word = now.index_word }
-      else record { ring = now.ring; index_word = with_index sizes.entries now.index_word (index_of name.queue label) }
+      else record { ring = now.ring; index_word = with_index sizes.entries now.index_word (label_index_of name.queue label) }
 
   abbrev CheckedRing : Side → RingPart
   CheckedRing side =
@@ -196,10 +196,10 @@ module _ (plan : PairPlan) (declared : IsPair plan) (agree : Agree plan) (k queu
 
   word_given : (from : Side) (raw : List ℕ) (label : Label) → queue < (side_plan plan from).queues → IsFitting plan pair from label → Word (other_side from) older ≡ now.index_word
       → layout_of plan (other_side from) queue ≡ layout_at (rings_in plan from) queue
-      → Word (other_side from) (stored (store_of plan pair from raw label) ++ older) ≡ with_index (sizes_of plan (other_side from) queue).entries now.index_word (index_of queue label)
+      → Word (other_side from) (stored (store_of plan pair from raw label) ++ older) ≡ with_index (sizes_of plan (other_side from) queue).entries now.index_word (label_index_of queue label)
   word_given from raw label among fits stands same =
       index_lands plan declared agree from queue among pair raw older now.index_word stands label fits
-      ∙ ap (λ (l : Layout). with_index (entries_of l) now.index_word (index_of queue label)) (sym same)
+      ∙ ap (λ (l : Layout). with_index (entries_of l) now.index_word (label_index_of queue label)) (sym same)
 
   word_land : (from writer : Side) (p place : ℕ) (label : Label) → queue < (side_plan plan (other_side from)).queues → IsFitting plan pair writer label → Word from older ≡ now.index_word
       → Word from (Sent from (Land p writer place) (Landed label)) ≡ (OneLanded from writer label).index_word

@@ -6,7 +6,7 @@ use Rattle.step_kinds.specs.declared.plan.PairPlan.{PairPlan}
 use Rattle.step_kinds.specs.declared.steps.Label.{Label}
 use Rattle.lane_model.specs.declared.Write.{Write}
 use Rattle.lane_model.specs.declared.Write.TheVariants.{Data}
-use Rattle.ledger_model.specs.Labels.{write_of, index_of}
+use Rattle.ledger_model.specs.Labels.{write_of, label_index_of}
 use Rattle.order_rules.specs.Order.{Order, relaxed, strict, may_land}
 use Rattle.pair_model.specs.Orders.{order_of}
 
@@ -33,7 +33,7 @@ pub record LandsInPart {Y : Type 0} (read : Label → Option Y) (kind : Y → �
 -- the side sends on a queue, or an index write of the lane that the side receives there.
 pub record LandsInLane (plan : PairPlan) (q : ℕ) (flight : List Label) (place : ℕ) (label : Label) : Type 0 where
   pub write : (own : Write) → write_of q label ≡ Some own → LandsInPart (write_of q) (kind_of_write plan.strict) flight place own
-  pub index : (n : ℕ) → index_of q label ≡ Some n → LandsInPart (index_of q) (λ n. strict) flight place n
+  pub index : (n : ℕ) → label_index_of q label ≡ Some n → LandsInPart (label_index_of q) (λ n. strict) flight place n
 
 abbrev pub LanePartLands : Type 0
 LanePartLands = (plan : PairPlan) (side : Side) (q : ℕ) (flight : List Label) (place : ℕ) (label : Label) →

@@ -7,7 +7,7 @@ use Rattle.step_kinds.specs.declared.steps.Answer.TheVariants.{Ok as Done, OkNum
 use Rattle.step_kinds.specs.declared.steps.Step.{Step}
 use Rattle.step_kinds.specs.declared.steps.Step.TheVariants.{Break, DropDone, Begin, QpDown, Xbegin, Post, Land, Look, Copy, Clear, Ack}
 use Rattle.lane_model.specs.declared.Write.{Write}
-use Rattle.ledger_model.specs.Labels.{write_of, index_of}
+use Rattle.ledger_model.specs.Labels.{write_of, label_index_of}
 use Rattle.ledger_model.specs.Log.{Answered, is_on}
 
 pub data LaneChange : Type 0 where
@@ -48,7 +48,7 @@ change_of lane made = told made.step made.answer where
   told (Xbegin p side queue dev dst kind payload) (OkNumber n) = if is_on lane p side queue then EntryIsBegun else Unchanged
   told (Post p side queue) (Posted label) = if is_on lane p side queue then WriteIsPosted else Unchanged
   told (Land p side place) (Landed label) =
-      if p == lane.pair then (if same_side side lane.from then change_by_write (write_of lane.queue label) else change_by_index (index_of lane.queue label)) else Unchanged
+      if p == lane.pair then (if same_side side lane.from then change_by_write (write_of lane.queue label) else change_by_index (label_index_of lane.queue label)) else Unchanged
   told (Look p side queue) (ReadyFrame n len) = if is_on lane p (other_side side) queue then EntryIsFound else Unchanged
   told (Copy p side queue) (Copied n part) = if is_on lane p (other_side side) queue then PartIsCopied else Unchanged
   told (Copy p side queue) (Delivered n frame) = if is_on lane p (other_side side) queue then PartIsCopied else Unchanged

@@ -8,7 +8,7 @@ use Rattle.step_kinds.specs.declared.plan.Plan.{Plan}
 use Rattle.step_kinds.specs.declared.steps.Answer.{Answer}
 use Rattle.step_kinds.specs.declared.steps.Step.{Step}
 use Rattle.lane_model.specs.Lane.{Entry, Lane}
-use Rattle.lane_model.specs.LaneSteps.{LaneStep, Begin, Post, Land, Look, Copy, Clear, Acknowledge, GiveBack, Cut, Drop, Runs}
+use Rattle.lane_model.specs.LaneSteps.{LaneStep, Begin, Post, Land, Look, Copy, Clear, Acknowledge, GiveBack, Cut, Drop, LaneRuns}
 use Rattle.lane_laws.specs.Laws.{IsFresh}
 use Rattle.ring_geometry.specs.Geometry.{HasRing}
 use Rattle.ledger_model.specs.Ledger.{PairPart, side_of}
@@ -38,7 +38,7 @@ AreStepsFor IndexIsPosted steps = steps ≡ Acknowledge ∷ []
 pub record MovesByLaneSteps (change : LaneChange) (before after : Lane) : Type 0 where
   pub steps : List LaneStep
   pub are : AreStepsFor change steps
-  pub runs : Runs steps before after
+  pub runs : LaneRuns steps before after
 
 -- both sides of a lane are up
 pub record AreBothUp (now : PairPart) (from : Side) : Type 0 where

@@ -35,8 +35,8 @@ IsOrdinaryPair plan pair = (pair_plan plan pair).raw ≡ false
 -- In order and once
 
 -- the first list begins the second
-abbrev pub Begins : List Numbered → List Numbered → Type 0
-Begins xs ys = (rest : List Numbered) × (ys ≡ xs ++ rest)
+abbrev pub LogBegins : List Numbered → List Numbered → Type 0
+LogBegins xs ys = (rest : List Numbered) × (ys ≡ xs ++ rest)
 
 -- the frame at each place was answered with the number of that place
 abbrev pub NumberedFrom : ℕ → List Numbered → Type 0
@@ -45,7 +45,7 @@ NumberedFrom n (frame ∷ frames) = (frame.number ≡ n) × NumberedFrom (n + 1)
 
 -- what was delivered on the lane in the session is a prefix of what was accepted there, and both are numbered from 0 on
 pub record IsInOrder (plan : Plan) (log : List Answered) (lane : LaneName) (session : ℕ) : Type 0 where
-  pub prefix : Begins (delivered plan log lane session) (accepted plan log lane session)
+  pub prefix : LogBegins (delivered plan log lane session) (accepted plan log lane session)
   pub accepted_numbers : NumberedFrom 0 (accepted plan log lane session)
   pub delivered_numbers : NumberedFrom 0 (delivered plan log lane session)
 

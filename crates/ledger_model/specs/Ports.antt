@@ -20,14 +20,14 @@ abbrev pub receiver_of : LaneName → LaneName
 receiver_of lane = record lane { from = other_side lane.from }
 
 -- the port of the switch with this number, where it has one on the side and the queue, and else that of a later switch
-abbrev pub port_at : ℕ → Option ℕ → Option Port → Option Port
-port_at k None later = later
-port_at k (Some place) later = Some (record { switch = k; place = place })
+abbrev pub ledger_port_at : ℕ → Option ℕ → Option Port → Option Port
+ledger_port_at k None later = later
+ledger_port_at k (Some place) later = Some (record { switch = k; place = place })
 
 abbrev pub port_from : List DevPlan → LaneName → ℕ → List SwitchPlan → Option Port
 port_from devs own k [] = None
 port_from devs own k (switch ∷ rest) =
-    port_at k (position_from (λ dev. is_on own (dev_plan devs dev).pair (dev_plan devs dev).side (dev_plan devs dev).queue) 0 switch.ports) (port_from devs own (k + 1) rest)
+    ledger_port_at k (position_from (λ dev. is_on own (dev_plan devs dev).pair (dev_plan devs dev).side (dev_plan devs dev).queue) 0 switch.ports) (port_from devs own (k + 1) rest)
 
 -- the port on a side and a queue
 abbrev pub port_on : Plan → LaneName → Option Port

@@ -14,7 +14,7 @@ use Rattle.lane_model.specs.declared.Write.{Write}
 use Rattle.lane_model.specs.declared.Write.TheVariants.{Data, Flag, Bell}
 use Rattle.lane_model.specs.Lane.{Slot, Lane, flags_of, with_field, with_flags, blank_slot}
 pub use Rattle.lane_model.specs.Lane.{zeroed_slot}
-use Rattle.ledger_model.specs.Labels.{write_of, index_of, writes_among, indexes_among}
+use Rattle.ledger_model.specs.Labels.{write_of, label_index_of, writes_among, indexes_among}
 use Rattle.ledger_model.specs.Ledger.{LanePart, PairPart, side_of, lane_of, link_up, entry_in}
 use Rattle.ledger_model.specs.Log.{Answered, Memories, answered, is_on}
 use Rattle.ledger_model.specs.Next.{Ledger, start, ledger_after}
@@ -52,7 +52,7 @@ ring_next sizes name lane now made = changed made.step made.answer where
   landed from label =
       if same_side from name.from
       then record { ring = with_write sizes.entries lane now.ring (write_of name.queue label); index_word = now.index_word }
-      else record { ring = now.ring; index_word = with_index sizes.entries now.index_word (index_of name.queue label) }
+      else record { ring = now.ring; index_word = with_index sizes.entries now.index_word (label_index_of name.queue label) }
 
   checked : Side → RingPart
   checked side =
@@ -84,8 +84,8 @@ ring_of plan memories steps name =
     ring_from plan memories name [] (start plan) (fresh_ring (sizes_of pair name.from name.queue) pair.up) steps
 
 -- the lane that a ledger's lane, its writes and index writes in flight, and a ring show
-abbrev pub lane_shown : Sizes → ℕ → Bool → List Write → List ℕ → LanePart → RingPart → Lane
-lane_shown sizes queue up writes indexes lane ring = record {
+abbrev pub ledger_lane_shown : Sizes → ℕ → Bool → List Write → List ℕ → LanePart → RingPart → Lane
+ledger_lane_shown sizes queue up writes indexes lane ring = record {
   entries = sizes.entries;
   largest = sizes.largest;
   up = up;
@@ -107,4 +107,4 @@ lane_shown sizes queue up writes indexes lane ring = record {
 -- the same of a pair
 abbrev pub shown_lane : Sizes → PairPart → RingPart → Side → ℕ → Lane
 shown_lane sizes pair ring from queue =
-    lane_shown sizes queue (link_up pair) (writes_among queue (side_of pair from).flight) (indexes_among queue (side_of pair (other_side from)).flight) (lane_of pair from queue) ring
+    ledger_lane_shown sizes queue (link_up pair) (writes_among queue (side_of pair from).flight) (indexes_among queue (side_of pair (other_side from)).flight) (lane_of pair from queue) ring

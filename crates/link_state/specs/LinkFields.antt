@@ -19,8 +19,8 @@ abbrev pub IsNumbered : Inside → Type 0
 IsNumbered link = link.session ≤ most_sessions
 
 -- what is kept, from the link of a pair
-abbrev pub inside_of : PairLink → Inside
-inside_of link = record {
+abbrev pub link_inside_of : PairLink → Inside
+link_inside_of link = record {
   state = link.state;
   session = link.session;
   enabled = record { a = link.enabled.a; b = link.enabled.b };

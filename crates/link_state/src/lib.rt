@@ -195,11 +195,11 @@ impl Model for Link {
 
     ghost Value = { PairLink };
 
-    ghost use Rattle.link_state.specs.LinkFields.{IsNumbered, inside_of, link_of};
+    ghost use Rattle.link_state.specs.LinkFields.{IsNumbered, link_inside_of, link_of};
 
     ghost view = { link_of };
 
     ghost invariant = { IsNumbered };
 
-    ghost inverse = { inside_of };
+    ghost inverse = { link_inside_of };
 }

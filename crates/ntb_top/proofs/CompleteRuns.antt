@@ -4,7 +4,7 @@ use Rattle.std.proofs.lemmas.Bool.{le-ltb, false≢true}
 use Rattle.std.proofs.lemmas.List.{length-append}
 use Rattle.ntb_top.specs.Checks.{checked}
 use Rattle.cluster_run.specs.stream.Streams.{StreamShown}
-use Rattle.command_reply.specs.Output.{Output, done, too_long}
+use Rattle.command_reply.specs.Output.{Output, reply_done, too_long}
 use Rattle.explore_command.specs.Answers.{ExploresTo}
 use Rattle.io_edges.specs.Whole.{HasGiven, HoldsAll}
 use Rattle.reads_command.specs.Answers.{output_of}
@@ -18,7 +18,7 @@ use Rattle.step_kinds.specs.Limits.{most_script_bytes}
 use Rattle.step_kinds.specs.Runs.{LaneShown}
 use Rattle.step_kinds.specs.declared.plan.Plan.{Plan}
 use Rattle.traffic_command.specs.Answers.{IsRunOfScript, IsStreamOfScript}
-use Rattle.traffic_command.specs.Traffic.{Carried}
+use Rattle.traffic_command.specs.Traffic.{TrafficCarried}
 use Rattle.ntb_top.proofs.RunOutcomes.{answered_as}
 use Rattle.ntb_top.specs.Answers.{IsAnswerTo, IsReplyOf}
 use Rattle.ntb_top.specs.Commands.{command_of, command_reads}
@@ -51,11 +51,11 @@ explore_status (Ok plan) output (inl all) = of_output output _ all.answer (λ e.
 explore_status (Ok plan) output (inr many) = of_output output _ many.answer (λ e. absurd (omega (arith, e)), λ e. absurd (omega (arith, e)))
 explore_status (Err fault) output h = of_output output _ h (λ e. absurd (omega (arith, e)), λ e. absurd (omega (arith, e)))
 
-run_status : (read : Result Plan ScriptFault) (output : Output) (carried : Carried (List LaneShown)) → IsRunOfScript read output carried → HasReply output.status
+run_status : (read : Result Plan ScriptFault) (output : Output) (carried : TrafficCarried (List LaneShown)) → IsRunOfScript read output carried → HasReply output.status
 run_status (Ok plan) output carried h = of_output output _ h.text (λ e. absurd (omega (arith, e)), λ e. absurd (omega (arith, e)))
 run_status (Err fault) output carried h = of_output output _ h.0 (λ e. absurd (omega (arith, e)), λ e. absurd (omega (arith, e)))
 
-stream_status : (read : Result Plan ScriptFault) (output : Output) (streamed : Carried (List StreamShown)) → IsStreamOfScript read output streamed → HasReply output.status
+stream_status : (read : Result Plan ScriptFault) (output : Output) (streamed : TrafficCarried (List StreamShown)) → IsStreamOfScript read output streamed → HasReply output.status
 stream_status (Ok plan) output streamed h = of_output output _ h.text (λ e. absurd (omega (arith, e)), λ e. absurd (omega (arith, e)))
 stream_status (Err fault) output streamed h = of_output output _ h.0 (λ e. absurd (omega (arith, e)), λ e. absurd (omega (arith, e)))
 
@@ -110,7 +110,7 @@ pub replays_complete : ReplaysComplete
 replays_complete words before after status content plan replay honest declares run =
     elim (runs_complete (Plain Replay) before after status content refl honest (answered_as (command_of words) (Some (Plain Replay)) before after status replay run)) [
       | inl whole ↦
-          let answer : whole.output ≡ done (replay_text plan) = whole.answers.answer ∙ ap replayed declares in
+          let answer : whole.output ≡ reply_done (replay_text plan) = whole.answers.answer ∙ ap replayed declares in
           inl (whole.status_is ∙ ap (λ (o : Output). o.status) answer, subst (λ (o : Output). HoldsAll before.held after.held o.text) answer whole.text)
       | inr wanting ↦ inr wanting
     ]
@@ -120,7 +120,7 @@ load_written : (seed frames : ℕ) (bytes : List ℕ) (before after : Outside) (
     (status ≡ 0) × HoldsAll before.held after.held (load_text seed frames)
 load_written seed frames bytes before after status none whole =
     let reply : IsReplyOf (Plain (Load seed frames)) [] whole.output = subst (λ (read : List ℕ). IsAnswerTo (Some (Plain (Load seed frames))) read whole.output) none whole.answers in
-    let answer : whole.output ≡ done (load_text seed frames) = reply.answer in
+    let answer : whole.output ≡ reply_done (load_text seed frames) = reply.answer in
     (whole.status_is ∙ ap (λ (o : Output). o.status) answer, subst (λ (o : Output). HoldsAll before.held after.held o.text) answer whole.text)
 
 -- Where the sink doesn't fail, `load` writes its summary, or is out of memory.

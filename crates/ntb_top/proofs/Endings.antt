@@ -11,7 +11,7 @@ use Rattle.step_kinds.specs.Runs.{LaneShown}
 use Rattle.step_kinds.specs.declared.runs.RunRecord.{RunRecord}
 use Rattle.traffic_command.specs.Answers.{IsRunOf, IsRunOfScript, IsStreamOf, IsStreamOfScript}
 use Rattle.traffic_command.specs.Replies.{carried_by, streamed_by}
-use Rattle.traffic_command.specs.Traffic.{Carried, nothing_carried}
+use Rattle.traffic_command.specs.Traffic.{TrafficCarried, nothing_carried}
 use Rattle.traffic_command.specs.declared.reply.TrafficReply.{TrafficReply}
 use Rattle.script_text.specs.Script.{script_of}
 use Rattle.script_words.specs.declared.fault.ScriptFault.{ScriptFault}
@@ -19,7 +19,7 @@ use Rattle.ntb_top.proofs.RunOutcomes.{run_answered, run_nothing, sink_of, sourc
 use Rattle.ntb_top.specs.Answers.{IsAnswerTo, IsRunAnswerTo, IsStreamAnswerTo}
 use Rattle.ntb_top.specs.Commands.{command_reads, is_reading}
 use Rattle.ntb_top.specs.Ends.{Beside, HasEnded, IsTrueRun, IsTrueStream, beside_run, beside_stream, nothing_beside}
-use Rattle.ntb_top.specs.Inputs.{Given, HasRead, HasReplied, HasWritten}
+use Rattle.ntb_top.specs.Inputs.{ShellGiven, HasRead, HasReplied, HasWritten}
 use Rattle.ntb_top.specs.Runs.{HasAnswered, Outside}
 use Rattle.ntb_top.specs.declared.command.Command.{Command}
 use Rattle.ntb_top.specs.declared.command.Command.TheVariants.{Plain, Threaded}
@@ -29,7 +29,7 @@ use Rattle.ntb_top.specs.declared.input.Stop.{Stop}
 use Rattle.ntb_top.specs.declared.input.Stop.TheVariants.{SourceFailed}
 
 -- what was read stays so, whatever comes of it afterwards
-read_on : {T U : Type 0} (before after : Given) (bytes : List ℕ) (value : T) (reply : U) → HasRead true before after bytes (Ok value) → HasRead true before after bytes (Ok reply)
+read_on : {T U : Type 0} (before after : ShellGiven) (bytes : List ℕ) (value : T) (reply : U) → HasRead true before after bytes (Ok value) → HasRead true before after bytes (Ok reply)
 read_on before after bytes value reply read =
     record {
       taken = read.taken;
@@ -42,10 +42,10 @@ read_on before after bytes value reply read =
     }
 
 -- the reply, with what comes beside it, of a command to what was read
-abbrev pub HasRunReply : Given → Given → Result (TrafficReply RunRecord) Stop → Type 0
+abbrev pub HasRunReply : ShellGiven → ShellGiven → Result (TrafficReply RunRecord) Stop → Type 0
 HasRunReply before after result = HasReplied true (λ bytes (run : TrafficReply RunRecord). IsRunAnswerTo bytes run.reply (carried_by run)) before after result
 
-abbrev pub HasStreamReply : Given → Given → Result (TrafficReply StreamRecord) Stop → Type 0
+abbrev pub HasStreamReply : ShellGiven → ShellGiven → Result (TrafficReply StreamRecord) Stop → Type 0
 HasStreamReply before after result = HasReplied true (λ bytes (streams : TrafficReply StreamRecord). IsStreamAnswerTo bytes streams.reply (streamed_by streams)) before after result
 
 -- it is an answer of the command, whatever comes with it
@@ -55,7 +55,7 @@ as_answer : {C : Type 0} (nothing : C) (IsOf : List ℕ → Output → C → Typ
 as_answer nothing IsOf true bytes output carried answer = answer.0
 as_answer nothing IsOf false bytes output carried answer = (carried, answer)
 
-abbrev run_told : (before after : Given) (run : TrafficReply RunRecord) → HasRunReply before after (Ok run) → HasReplied true (IsAnswerTo (Some (Threaded Run))) before after (Ok run.reply)
+abbrev run_told : (before after : ShellGiven) (run : TrafficReply RunRecord) → HasRunReply before after (Ok run) → HasReplied true (IsAnswerTo (Some (Threaded Run))) before after (Ok run.reply)
 run_told before after run replied =
     record {
       bytes = replied.bytes;
@@ -63,7 +63,7 @@ run_told before after run replied =
       answers = as_answer nothing_carried IsRunOf (nat_lt most_script_bytes (length replied.bytes)) replied.bytes run.reply (carried_by run) replied.answers;
     }
 
-abbrev streams_told : (before after : Given) (streams : TrafficReply StreamRecord) → HasStreamReply before after (Ok streams) → HasReplied true (IsAnswerTo (Some (Threaded Stream))) before after (Ok streams.reply)
+abbrev streams_told : (before after : ShellGiven) (streams : TrafficReply StreamRecord) → HasStreamReply before after (Ok streams) → HasReplied true (IsAnswerTo (Some (Threaded Stream))) before after (Ok streams.reply)
 streams_told before after streams replied =
     record {
       bytes = replied.bytes;
@@ -79,7 +79,7 @@ not_long nothing IsOf true bytes output carried answer zero =
 not_long nothing IsOf false bytes output carried answer zero = answer
 
 -- an answer with status 0 is the text of a record of the plan that the bytes declare
-true_run : (bytes : List ℕ) (before after : Outside) (output : Output) (carried : Carried (List LaneShown)) (read : Result Plan ScriptFault) → script_of bytes ≡ read →
+true_run : (bytes : List ℕ) (before after : Outside) (output : Output) (carried : TrafficCarried (List LaneShown)) (read : Result Plan ScriptFault) → script_of bytes ≡ read →
     IsRunOfScript read output carried → output.status ≡ 0 → HoldsAll before.held after.held output.text → IsTrueRun bytes before after (beside_run carried)
 true_run bytes before after output carried (Ok plan) is answer zero text =
     record {
@@ -95,7 +95,7 @@ true_run bytes before after output carried (Ok plan) is answer zero text =
 true_run bytes before after output carried (Err fault) is answer zero text =
     absurd (subst (λ (output : Output). output.status ≡ 0 → ⊥) (sym answer.0) (λ zero. omega arith) zero)
 
-true_stream : (bytes : List ℕ) (before after : Outside) (output : Output) (streamed : Carried (List StreamShown)) (read : Result Plan ScriptFault) → script_of bytes ≡ read →
+true_stream : (bytes : List ℕ) (before after : Outside) (output : Output) (streamed : TrafficCarried (List StreamShown)) (read : Result Plan ScriptFault) → script_of bytes ≡ read →
     IsStreamOfScript read output streamed → output.status ≡ 0 → HoldsAll before.held after.held output.text → IsTrueStream bytes before after (beside_stream streamed)
 true_stream bytes before after output streamed (Ok plan) is answer zero text =
     record {

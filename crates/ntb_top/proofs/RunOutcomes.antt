@@ -11,7 +11,7 @@ use Rattle.io_edges.specs.declared.whole.ReadError.{ReadError}
 use Rattle.io_edges.specs.declared.whole.ReadError.TheVariants.{ReadFault, TooLong as ReadTooLong}
 use Rattle.ntb_top.specs.Answers.{IsAnswerTo}
 use Rattle.ntb_top.specs.Commands.{IsPlain, is_reading, plain_part}
-use Rattle.ntb_top.specs.Inputs.{Given, HasInput, HasReplied, HasWritten, Held}
+use Rattle.ntb_top.specs.Inputs.{ShellGiven, HasInput, HasReplied, HasWritten, ShellHeld}
 use Rattle.ntb_top.specs.Runs.{HasAnswered, Outside}
 use Rattle.ntb_top.specs.declared.command.Command.{Command}
 use Rattle.ntb_top.specs.declared.command.Command.TheVariants.{Plain, Threaded}
@@ -47,7 +47,7 @@ not_failed read long failed = absurd (cc (long, failed))
 
 -- The input of a command that reads is too long where the source gave one byte past the limit, each at a read, and
 -- didn't fail.
-pub input_too_long : (reading : Bool) (before after : Given) → reading ≡ true → IfSome before.left (λ content. most_script_bytes < length content) →
+pub input_too_long : (reading : Bool) (before after : ShellGiven) → reading ≡ true → IfSome before.left (λ content. most_script_bytes < length content) →
     IfSome before.left (λ content. after.left ≡ Some (drop (most_script_bytes + 1) content)) → HasGivenAtMost (most_script_bytes + 1) before.left after.left →
     after.reads ≤ before.reads + most_script_bytes + 1 → after.faults ≡ before.faults → HasInput reading before after (Ok TooLong)
 input_too_long reading before after reads long taken rest count kept =
@@ -70,10 +70,10 @@ input_too_long reading before after reads long taken rest count kept =
 
 -- The run
 
-abbrev pub source_of : Outside → Given
+abbrev pub source_of : Outside → ShellGiven
 source_of outside = record { left = outside.left; faults = outside.read_faults; reads = outside.reads }
 
-abbrev pub sink_of : Outside → Held
+abbrev pub sink_of : Outside → ShellHeld
 sink_of outside = record { held = outside.held; faults = outside.write_faults; writes = outside.writes }
 
 -- a run that has its reply, whether all of the text is written or a part

@@ -10,7 +10,7 @@ use Rattle.replay_command.specs.Answers.{IsLoadOf, IsReplayOf}
 use Rattle.reads_command.specs.Answers.{IsReadsOf}
 use Rattle.trace_command.specs.Answers.{IsTraceOf}
 use Rattle.traffic_command.specs.Answers.{IsRunOf, IsStreamOf}
-use Rattle.traffic_command.specs.Traffic.{Carried, nothing_carried}
+use Rattle.traffic_command.specs.Traffic.{TrafficCarried, nothing_carried}
 use Rattle.ntb_top.specs.declared.command.Command.{Command}
 use Rattle.ntb_top.specs.declared.command.Command.TheVariants.{Plain, Threaded}
 use Rattle.ntb_top.specs.declared.command.PlainCommand.TheVariants.{Check, Explore, Load, Reads, Replay, Trace}
@@ -21,8 +21,8 @@ use Rattle.ntb_top.specs.declared.command.ThreadedCommand.TheVariants.{Run, Stre
 abbrev pub IsReplyOf : Command → List ℕ → Output → Type 0
 IsReplyOf (Plain Replay) bytes output = IsReplayOf bytes output
 IsReplyOf (Plain (Load seed frames)) bytes output = IsLoadOf seed frames output
-IsReplyOf (Threaded Run) bytes output = (carried : Carried (List LaneShown)) × IsRunOf bytes output carried
-IsReplyOf (Threaded Stream) bytes output = (streamed : Carried (List StreamShown)) × IsStreamOf bytes output streamed
+IsReplyOf (Threaded Run) bytes output = (carried : TrafficCarried (List LaneShown)) × IsRunOf bytes output carried
+IsReplyOf (Threaded Stream) bytes output = (streamed : TrafficCarried (List StreamShown)) × IsStreamOf bytes output streamed
 IsReplyOf (Plain Reads) bytes output = IsReadsOf bytes output
 IsReplyOf (Plain Trace) bytes output = IsTraceOf bytes output
 IsReplyOf (Plain Check) bytes output = IsCheckOf bytes output
@@ -38,8 +38,8 @@ abbrev pub IsAnswerWith : {C : Type 0} → C → (List ℕ → Output → C → 
 IsAnswerWith nothing IsOf bytes output carried =
     MatchBool (nat_lt most_script_bytes (length bytes)) ((output ≡ too_long) × (carried ≡ nothing)) (IsOf bytes output carried)
 
-abbrev pub IsRunAnswerTo : List ℕ → Output → Carried (List LaneShown) → Type 0
+abbrev pub IsRunAnswerTo : List ℕ → Output → TrafficCarried (List LaneShown) → Type 0
 IsRunAnswerTo bytes output carried = IsAnswerWith nothing_carried IsRunOf bytes output carried
 
-abbrev pub IsStreamAnswerTo : List ℕ → Output → Carried (List StreamShown) → Type 0
+abbrev pub IsStreamAnswerTo : List ℕ → Output → TrafficCarried (List StreamShown) → Type 0
 IsStreamAnswerTo bytes output streamed = IsAnswerWith nothing_carried IsStreamOf bytes output streamed

@@ -9,9 +9,9 @@ use Rattle.std.specs.declared.io.ErrorKind.TheVariants.{OutOfMemory}
 use Rattle.std.specs.declared.vec.IntoIter.{IntoIter}
 
 -- all arguments but the first, which is the program's name; arguments that aren't all text are no words
-abbrev pub words_of : Result (IntoIter (String Global) Global) Error → List (List ℕ)
-words_of (Ok arguments) = map string_bytes (drop 1 (into_iter_items arguments))
-words_of (Err error) = []
+abbrev pub shell_words_of : Result (IntoIter (String Global) Global) Error → List (List ℕ)
+shell_words_of (Ok arguments) = map string_bytes (drop 1 (into_iter_items arguments))
+shell_words_of (Err error) = []
 
 -- there was no memory for the arguments
 abbrev pub AreWanting : Result (IntoIter (String Global) Global) Error → Type 0

@@ -1,7 +1,7 @@
 -- What a run of the program answers beside its status, and the whole contract of such a run.
 use Rattle.std.specs.Prelude.{◌≡◌, ℕ, Option, Some, None, Ok, List, [], map, option_map}
 use Rattle.cluster_run.specs.Lanes.{traffic_lanes}
-use Rattle.cluster_run.specs.Runs.{IsFit, IsShown}
+use Rattle.cluster_run.specs.Runs.{IsFit, IsRunShown}
 use Rattle.cluster_run.specs.stream.Streams.{AreResumed, StreamShown, streams_shown}
 use Rattle.command_reply.specs.Statuses.{number_of}
 use Rattle.command_reply.specs.declared.status.Status.TheVariants.{Done}
@@ -13,7 +13,7 @@ use Rattle.step_kinds.specs.declared.plan.Plan.{Plan}
 use Rattle.table_lane.specs.EndOfLane.{Shown}
 use Rattle.traffic_command.specs.Answers.{stream_on}
 use Rattle.traffic_command.specs.Text.{streams_text}
-use Rattle.traffic_command.specs.Traffic.{Carried}
+use Rattle.traffic_command.specs.Traffic.{TrafficCarried}
 use Rattle.ntb_top.specs.Answers.{IsAnswerTo}
 use Rattle.ntb_top.specs.Commands.{is_reading}
 use Rattle.ntb_top.specs.Runs.{HasAnswered, Outside}
@@ -32,10 +32,10 @@ abbrev pub beside_of : Ended → Beside
 beside_of ended = record { runs = option_map run_shown ended.runs; streams = option_map streams_shown ended.streams; proofs = ended.proofs.items }
 
 -- what comes with a text of `run`, and of `stream`
-abbrev pub beside_run : Carried (List LaneShown) → Beside
+abbrev pub beside_run : TrafficCarried (List LaneShown) → Beside
 beside_run carried = record { runs = carried.recorded; streams = None; proofs = carried.proofs }
 
-abbrev pub beside_stream : Carried (List StreamShown) → Beside
+abbrev pub beside_stream : TrafficCarried (List StreamShown) → Beside
 beside_stream streamed = record { runs = None; streams = streamed.recorded; proofs = streamed.proofs }
 
 abbrev pub nothing_beside : Beside
@@ -51,7 +51,7 @@ pub record IsTrueRun (bytes : List ℕ) (before after : Outside) (beside : Besid
   pub alone : beside.streams ≡ None
   pub text : HoldsAll before.held after.held (record_of plan run)
   pub fits : IsFit plan run
-  pub shown : IsShown plan run beside.proofs
+  pub shown : IsRunShown plan run beside.proofs
 
 -- The bytes declare a plan, and what was written is the text of a record that is answered. The record has the whole
 -- traffic of each lane, in order, and the answered proofs make it resumed.

@@ -7,7 +7,7 @@ ghost use Rattle.io_edges.specs.Gates.{LetsWorkers};
 ghost use Rattle.cluster_run.specs.stream.Workers.{most_stream_workers};
 ghost use Rattle.command_reply.specs.Statuses.{number_of};
 ghost use Rattle.command_reply.specs.declared.status.Status.TheVariants.{OutOfMemory};
-ghost use Rattle.ntb_top.specs.Arguments.{AreWanting, words_of};
+ghost use Rattle.ntb_top.specs.Arguments.{AreWanting, shell_words_of};
 ghost use Rattle.ntb_top.specs.Commands.{command_of};
 ghost use Rattle.ntb_top.specs.Ends.{HasEnded, beside_of};
 
@@ -35,7 +35,7 @@ pub fn run_arguments<R: Threads + Wait + Sync, S: Source, K: Sink, G: Gate>(
     gate: &G,
 ) -> Ended
     requires { LetsWorkers (G.lets gate.now) most_stream_workers }
-    ensures run { HasEnded (command_of (words_of arguments))
+    ensures run { HasEnded (command_of (shell_words_of arguments))
         (record {
           left = S.left source.old;
           read_faults = S.faults source.old;
@@ -63,7 +63,7 @@ pub fn run_arguments<R: Threads + Wait + Sync, S: Source, K: Sink, G: Gate>(
 
 // The words of a process's arguments. The only error is running out of memory.
 fn words_after_name(alloc: Global, arguments: io::Result<Args>) -> Result<Vec<String>, AllocError>
-    ensures words { IfOk result (λ words. map string_bytes words.items ≡ words_of arguments) }
+    ensures words { IfOk result (λ words. map string_bytes words.items ≡ shell_words_of arguments) }
     ensures wanting { AreWanting arguments → IsErr result }
 {
     match arguments {

@@ -5,7 +5,7 @@ ghost use Rattle.step_kinds.specs.Limits.{most_script_bytes, most_steps};
 ghost use Rattle.pair_model.specs.TrafficPlans.{IsWhole, frames_in as frames_of_item};
 ghost use Rattle.script_plan.specs.Scripts.{plan_in};
 ghost use Rattle.step_list.specs.StepLists.{all_lines};
-ghost use Rattle.ntb_top.specs.Checks.{IsCheckOf, count_text, counts_text, place_text, plan_counts_text};
+ghost use Rattle.ntb_top.specs.Checks.{IsCheckOf, count_text, check_counts_text, check_place_text, plan_counts_text};
 
 use arrayvec::ArrayString;
 use command_reply::Reply;
@@ -40,7 +40,7 @@ pub fn check_reply(alloc: Global, bytes: &[u8]) -> Result<Reply, AllocError>
 // How much a script declares, as one line.
 fn counts_of(alloc: Global, declared: Reader) -> Result<Vec<u8>, AllocError>
     requires { IsWhole declared.plan }
-    ensures { IfOk result (λ text. text.items ≡ counts_text declared) }
+    ensures { IfOk result (λ text. text.items ≡ check_counts_text declared) }
 {
     let hosts = declared.hosts().len();
     let script = declared.into_script(alloc);
@@ -104,7 +104,7 @@ fn push_count(text: &mut Vec<u8>, word: &str, count: usize) -> Result<(), AllocE
 
 // Where a line's fault was found, and what it is.
 fn place_of(fault: LineFault) -> ArrayString<MOST_PLACE_BYTES>
-    ensures text { result.bytes ≡ place_text fault }
+    ensures text { result.bytes ≡ check_place_text fault }
     ensures short { length result.bytes ≤ 64 }
 {
     let mut digits = Buffer::new();

@@ -32,9 +32,9 @@ write_of q (Bell p) = if p == q then Some QueueBell else None
 write_of q label = None
 
 -- the number of the entry that an index write on a queue gives back, where a label means one
-abbrev pub index_of : ℕ → Label → Option ℕ
-index_of q (Index p n) = if p == q then Some n else None
-index_of q label = None
+abbrev pub label_index_of : ℕ → Label → Option ℕ
+label_index_of q (Index p n) = if p == q then Some n else None
+label_index_of q label = None
 
 -- the writes of a queue's lane among those in flight from its sender, and its index writes among those from its
 -- receiver
@@ -42,4 +42,4 @@ abbrev pub writes_among : ℕ → List Label → List Write
 writes_among q labels = filter_map (write_of q) labels
 
 abbrev pub indexes_among : ℕ → List Label → List ℕ
-indexes_among q labels = filter_map (index_of q) labels
+indexes_among q labels = filter_map (label_index_of q) labels

@@ -17,9 +17,9 @@ abbrev pub frames_in : Traffic → ℕ
 frames_in (Send lane frame) = 1
 frames_in item = 0
 
-abbrev pub bytes_in : Traffic → ℕ
-bytes_in (Send lane frame) = length frame
-bytes_in item = 0
+abbrev pub traffic_bytes_in : Traffic → ℕ
+traffic_bytes_in (Send lane frame) = length frame
+traffic_bytes_in item = 0
 
 abbrev pub is_break_of : ℕ → Traffic → Bool
 is_break_of pair (Break other) = other == pair
@@ -51,5 +51,5 @@ pub record IsWhole (plan : Plan) : Type 0 where
   pub few_steps : length plan.steps ≤ most_steps
   pub traffic : All (IsTraffic plan) plan.traffic
   pub few_frames : sum (map frames_in plan.traffic) ≤ most_traffic_frames
-  pub few_bytes : sum (map bytes_in plan.traffic) ≤ most_traffic_bytes
+  pub few_bytes : sum (map traffic_bytes_in plan.traffic) ≤ most_traffic_bytes
   pub few_breaks : (pair : ℕ) → count_by (is_break_of pair) plan.traffic ≤ most_breaks

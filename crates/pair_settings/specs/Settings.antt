@@ -77,15 +77,15 @@ in_range setting = true
 -- The pair that they declare
 
 -- the number of an option of these sides, where it stands
-abbrev pub number_at : SideKey → Option Side → List Setting → Option ℕ
-number_at key side [] = None
-number_at key side (OfSide other scope number ∷ settings) =
-    if same_key key other && same_scope side scope then Some number else number_at key side settings
-number_at key side (setting ∷ settings) = number_at key side settings
+abbrev pub setting_number_at : SideKey → Option Side → List Setting → Option ℕ
+setting_number_at key side [] = None
+setting_number_at key side (OfSide other scope number ∷ settings) =
+    if same_key key other && same_scope side scope then Some number else setting_number_at key side settings
+setting_number_at key side (setting ∷ settings) = setting_number_at key side settings
 
 -- a side's number: its own key's, else the plain key's, else what it is where nothing is said
 abbrev pub side_number : List Setting → SideKey → Side → ℕ → ℕ
-side_number settings key side default = unwrap_or (option_or (number_at key (Some side) settings) (number_at key None settings)) default
+side_number settings key side default = unwrap_or (option_or (setting_number_at key (Some side) settings) (setting_number_at key None settings)) default
 
 abbrev pub mtu_in : List Setting → ℕ
 mtu_in [] = most_mtu

@@ -25,7 +25,7 @@ pub fn has_setting(setting: Setting, settings: &[Setting]) -> bool
 
 /// Returns the number of an option of these sides, where it stands.
 fn number_at(settings: &[Setting], key: SideKey, side: Option<Side>) -> Option<u32>
-    ensures { result ≡ rules.number_at key side settings.now }
+    ensures { result ≡ rules.setting_number_at key side settings.now }
 {
     for setting in settings {
         if let Setting::OfSide {

@@ -8,7 +8,7 @@ use Rattle.std.proofs.lemmas.Option.{none-some, slice_get-map, slice_get_past}
 use Rattle.order_rules.specs.Order.{Order, relaxed, passes, lands_behind, may_land}
 use Rattle.posted_queue.specs.Rows.{is_held_back}
 use Rattle.posted_queue.specs.Waiting.{class_awaited}
-use Rattle.posted_queue.specs.Landing.{answer_for, land_answer, after_landing}
+use Rattle.posted_queue.specs.Landing.{answer_for, land_answer, flight_after_landing}
 use Rattle.posted_queue.specs.declared.LandAnswer.TheVariants.{Landed, Blocked}
 
 -- the write at a place may land where it passes each write before it
@@ -60,7 +60,7 @@ none_within (x ∷ xs) zero within none = none-some x none
 none_within (x ∷ xs) (suc place) within none = none_within xs place (omega arith) none
 
 -- a write that may land lands, and is taken out
-pub landed : {W : Type 0} (order : W → Order) (writes : List W) (spare place : ℕ) (write : W) (held_back : Bool) → not held_back ≡ may_land (map order writes) place → slice_get writes place ≡ Some write → false ≡ held_back → (Landed write ≡ land_answer order (record { writes = writes; spare = spare }) place) × (record { writes = remove writes place; spare = spare } ≡ after_landing order (record { writes = writes; spare = spare }) place)
+pub landed : {W : Type 0} (order : W → Order) (writes : List W) (spare place : ℕ) (write : W) (held_back : Bool) → not held_back ≡ may_land (map order writes) place → slice_get writes place ≡ Some write → false ≡ held_back → (Landed write ≡ land_answer order (record { writes = writes; spare = spare }) place) × (record { writes = remove writes place; spare = spare } ≡ flight_after_landing order (record { writes = writes; spare = spare }) place)
 landed order writes spare place write held_back found taken free = (
   sym (ap (λ there. answer_for there (may_land (map order writes) place)) taken ∙ ap (answer_for (Some write)) lands),
   sym (ap (λ may. if may then record { writes = remove writes place; spare = spare } else record { writes = writes; spare = spare }) lands),
@@ -76,7 +76,7 @@ answer_for-blocked (x ∷ xs) zero within = refl
 answer_for-blocked (x ∷ xs) (suc place) within = answer_for-blocked xs place (omega arith)
 
 -- a write that is held back is blocked, and all stays
-pub blocked : {W : Type 0} (order : W → Order) (writes : List W) (spare place : ℕ) (held_back : Bool) → not held_back ≡ may_land (map order writes) place → place < length writes → true ≡ held_back → (Blocked ≡ land_answer order (record { writes = writes; spare = spare }) place) × (record { writes = writes; spare = spare } ≡ after_landing order (record { writes = writes; spare = spare }) place)
+pub blocked : {W : Type 0} (order : W → Order) (writes : List W) (spare place : ℕ) (held_back : Bool) → not held_back ≡ may_land (map order writes) place → place < length writes → true ≡ held_back → (Blocked ≡ land_answer order (record { writes = writes; spare = spare }) place) × (record { writes = writes; spare = spare } ≡ flight_after_landing order (record { writes = writes; spare = spare }) place)
 blocked order writes spare place held_back found within held = (
   sym (ap (answer_for (slice_get writes place)) stays ∙ answer_for-blocked writes place within),
   sym (ap (λ may. if may then record { writes = remove writes place; spare = spare } else record { writes = writes; spare = spare }) stays),

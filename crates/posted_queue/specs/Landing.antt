@@ -16,6 +16,6 @@ abbrev pub land_answer : {W : Type 0} → (W → Order) → Flight W → ℕ →
 land_answer order flight place = answer_for (slice_get flight.writes place) (may_land (map order flight.writes) place)
 
 -- what is in flight after that landing: a write that may land is taken out, and else all stays
-abbrev pub after_landing : {W : Type 0} → (W → Order) → Flight W → ℕ → Flight W
-after_landing order flight place =
+abbrev pub flight_after_landing : {W : Type 0} → (W → Order) → Flight W → ℕ → Flight W
+flight_after_landing order flight place =
     if may_land (map order flight.writes) place then record { writes = remove flight.writes place; spare = flight.spare } else flight

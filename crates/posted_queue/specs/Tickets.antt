@@ -13,15 +13,15 @@ abbrev pub kept_at : {W : Type 0} → List (Option W) → ℕ → Option W
 kept_at slots key = slice_index_or slots key None
 
 -- the writes that these tickets represent
-abbrev pub writes_of : {W : Type 0} → List (Option W) → List Ticket → List W
-writes_of slots tickets = filter_map (λ ticket. kept_at slots ticket.key) tickets
+abbrev pub ticket_writes_of : {W : Type 0} → List (Option W) → List Ticket → List W
+ticket_writes_of slots tickets = filter_map (λ ticket. kept_at slots ticket.key) tickets
 
 -- the flight of the writes that the tickets in flight represent
-abbrev pub flight_of : {W : Type 0} → List (Option W) → Flight Ticket → Flight W
-flight_of slots tickets = record { writes = writes_of slots tickets.writes; spare = tickets.spare }
+abbrev pub ticket_flight_of : {W : Type 0} → List (Option W) → Flight Ticket → Flight W
+ticket_flight_of slots tickets = record { writes = ticket_writes_of slots tickets.writes; spare = tickets.spare }
 
 -- a write is kept at the ticket's key, and has the ticket's order
-pub record IsKept {W : Type 0} (order : W → Order) (slots : List (Option W)) (ticket : Ticket) : Type 0 where
+pub record IsTicketKept {W : Type 0} (order : W → Order) (slots : List (Option W)) (ticket : Ticket) : Type 0 where
   pub write : W
   pub there : kept_at slots ticket.key ≡ Some write
   pub order_is : order write ≡ ticket_order ticket
@@ -32,6 +32,6 @@ NoneAt key [] = Unit {0}
 NoneAt key (ticket ∷ rest) = (ticket.key ≢ key) × NoneAt key rest
 
 -- each ticket represents a write of its own
-abbrev pub AreKept : {W : Type 0} → (W → Order) → List (Option W) → List Ticket → Type 0
-AreKept order slots [] = Unit {0}
-AreKept order slots (ticket ∷ rest) = IsKept order slots ticket × NoneAt ticket.key rest × AreKept order slots rest
+abbrev pub AreTicketsKept : {W : Type 0} → (W → Order) → List (Option W) → List Ticket → Type 0
+AreTicketsKept order slots [] = Unit {0}
+AreTicketsKept order slots (ticket ∷ rest) = IsTicketKept order slots ticket × NoneAt ticket.key rest × AreTicketsKept order slots rest

@@ -20,7 +20,7 @@ pub struct BlockQueue<W: Ordered> {
 
 impl<W: Ordered> BlockQueue<W> {
     ghost use Rattle.posted_queue.specs.Flight.{nothing_in_flight, promised, given_back, posted, discarded};
-    ghost use Rattle.posted_queue.specs.Landing.{land_answer, after_landing};
+    ghost use Rattle.posted_queue.specs.Landing.{land_answer, flight_after_landing};
 
     /// Returns a queue with nothing in flight and no room promised. It takes no memory yet.
     pub fn new(alloc: Global) -> Self
@@ -119,7 +119,7 @@ impl<W: Ordered> BlockQueue<W> {
     #[inline]
     pub fn land(&mut self, place: usize) -> LandAnswer<W>
         ensures answer { result ≡ land_answer W.order self.old place }
-        ensures after { self.new ≡ after_landing W.order self.old place }
+        ensures after { self.new ≡ flight_after_landing W.order self.old place }
     {
         if place >= self.blocks.len() {
             return LandAnswer::Nothing;
@@ -146,7 +146,7 @@ impl<W: Ordered> BlockQueue<W> {
     fn land_behind(&mut self, place: usize) -> LandAnswer<W>
         requires { place < length self.old.writes }
         ensures answer { result ≡ land_answer W.order self.old place }
-        ensures after { self.new ≡ after_landing W.order self.old place }
+        ensures after { self.new ≡ flight_after_landing W.order self.old place }
     {
         let waits_for = class_awaited_at(&self.blocks, place);
         let Some(write) = self.blocks.take(place, waits_for) else {

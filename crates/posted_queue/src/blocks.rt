@@ -153,11 +153,11 @@ impl<W: Ordered> Blocks<W> {
 
 impl<W: Ordered> Model for Blocks<W> {
     ghost use Rattle.std.specs.Prelude.{◌++◌, ◌<◌, ◌^◌, length};
-    ghost use Rattle.posted_queue.specs.Rows.{PartState, joined};
+    ghost use Rattle.posted_queue.specs.Rows.{PartState, queue_joined};
 
     ghost Value = { PartState W };
 
-    ghost view = { λ blocks. joined blocks.front blocks.rest };
+    ghost view = { λ blocks. queue_joined blocks.front blocks.rest };
 
     ghost invariant = { λ blocks. length (blocks.front.writes ++ blocks.rest.writes) < 2 ^ 64 };
 }

@@ -37,13 +37,13 @@ impl<W: Ordered, P: Part<W>> Level<W, P> {
 
 impl<W: Ordered, P: Part<W>> Model for Level<W, P> {
     ghost use Rattle.std.specs.Prelude.{◌-◌, drop};
-    ghost use Rattle.posted_queue.specs.Rows.{PartState, writes_in, left_in};
+    ghost use Rattle.posted_queue.specs.Rows.{PartState, row_writes_in, left_in};
     ghost use Rattle.posted_queue.specs.Levels.{IsLevel};
 
     ghost Value = { PartState W };
 
     ghost view = { λ level. record {
-      writes = writes_in level.row.items;
+      writes = row_writes_in level.row.items;
       spare = level.room;
       left = left_in P.most (64 - level.last) (drop level.last level.row.items);
     } };

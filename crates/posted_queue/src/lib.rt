@@ -64,7 +64,7 @@ pub struct Queue<W: Ordered> {
 impl<W: Ordered> Queue<W> {
     ghost use Rattle.order_rules.specs.Order.{may_land};
     ghost use Rattle.posted_queue.specs.Flight.{nothing_in_flight, promised, given_back, posted, discarded};
-    ghost use Rattle.posted_queue.specs.Landing.{land_answer, after_landing};
+    ghost use Rattle.posted_queue.specs.Landing.{land_answer, flight_after_landing};
 
     /// Returns a queue with nothing in flight and no room promised. It takes no memory yet.
     pub fn new(alloc: Global) -> Self
@@ -165,7 +165,7 @@ impl<W: Ordered> Queue<W> {
     #[inline]
     pub fn land(&mut self, place: usize) -> LandAnswer<W>
         ensures answer { result ≡ land_answer W.order self.old place }
-        ensures after { self.new ≡ after_landing W.order self.old place }
+        ensures after { self.new ≡ flight_after_landing W.order self.old place }
     {
         let ticket = match self.tickets.land(place) {
             LandAnswer::Landed(ticket) => ticket,
@@ -198,12 +198,12 @@ impl<W: Ordered> Queue<W> {
 
 impl<W: Ordered> Model for Queue<W> {
     ghost use Rattle.posted_queue.specs.Flight.{Flight};
-    ghost use Rattle.posted_queue.specs.Tickets.{flight_of, AreKept};
+    ghost use Rattle.posted_queue.specs.Tickets.{ticket_flight_of, AreTicketsKept};
     ghost use Rattle.slab.specs.Slab.{HasRoomFor};
 
     ghost Value = { Flight W };
 
-    ghost view = { λ queue. flight_of queue.writes.slots queue.tickets };
+    ghost view = { λ queue. ticket_flight_of queue.writes.slots queue.tickets };
 
-    ghost invariant = { λ queue. AreKept W.order queue.writes.slots queue.tickets.writes × HasRoomFor queue.writes queue.tickets.spare };
+    ghost invariant = { λ queue. AreTicketsKept W.order queue.writes.slots queue.tickets.writes × HasRoomFor queue.writes queue.tickets.spare };
 }

@@ -3,7 +3,7 @@
 
 ghost use Rattle.std.specs.Prelude.{◌≡◌, ◌+◌, ◌-◌, ◌<◌, ◌≤◌, ◌^◌, ◌⊎◌, suc, true, false, [], ◌∷◌, ◌++◌, length, min, take, drop, remove, slice_get, slice_index_or, IfNone, IfSome, OnSome, MatchOption, is_none, vec_len, vec_capacity, OnOk, IfOk};
 ghost use Rattle.std.specs.Option.{ForSome};
-ghost use Rattle.posted_queue.specs.Rows.{is_held_back, writes_in, room_in, left_in, part_at, IsSpot, KeepsWrites, TakesOut, MovesLast};
+ghost use Rattle.posted_queue.specs.Rows.{is_held_back, row_writes_in, row_room_in, left_in, part_at, IsRowSpot, KeepsWrites, TakesOut, MovesLast};
 
 use crate::Ordered;
 use crate::block::BLOCK_MOST;
@@ -30,9 +30,9 @@ pub fn find_spot<W: Ordered, P: Part<W>>(
     waits_for: Option<usize>,
 ) -> Option<Spot>
     requires { ForSome waits_for (λ class. class < 8) }
-    ensures spot { IfSome result (IsSpot row.now place) }
-    ensures free { IfSome result (λ spot. is_held_back W.order waits_for (writes_in (take spot.part row.now)) ≡ false) }
-    ensures none { IfNone result ((length (writes_in row.now) ≤ place) ⊎ (is_held_back W.order waits_for (take place (writes_in row.now)) ≡ true)) }
+    ensures spot { IfSome result (IsRowSpot row.now place) }
+    ensures free { IfSome result (λ spot. is_held_back W.order waits_for (row_writes_in (take spot.part row.now)) ≡ false) }
+    ensures none { IfNone result ((length (row_writes_in row.now) ≤ place) ⊎ (is_held_back W.order waits_for (take place (row_writes_in row.now)) ≡ true)) }
 {
     let mut left = place;
     for (index, part) in row.iter().enumerate() {
@@ -53,8 +53,8 @@ pub fn find_spot<W: Ordered, P: Part<W>>(
 /// Returns the first part that has a write, of a row that has one.
 #[inline]
 pub fn first_with_write<W: Ordered, P: Part<W>>(row: &[Counted<W, P>]) -> usize
-    requires { 0 < length (writes_in row.now) }
-    ensures { IsSpot row.now 0 (record { part = result; place = 0 }) }
+    requires { 0 < length (row_writes_in row.now) }
+    ensures { IsRowSpot row.now 0 (record { part = result; place = 0 }) }
 {
     let mut index = 0;
     while row[index].len() == 0 {
@@ -66,11 +66,11 @@ pub fn first_with_write<W: Ordered, P: Part<W>>(row: &[Counted<W, P>]) -> usize
 /// Returns the first part from this one on that has room, where some of these has.
 #[inline]
 pub fn first_with_room<W: Ordered, P: Part<W>>(row: &[Counted<W, P>], from: usize) -> usize
-    requires { 0 < room_in (drop from row.now) }
+    requires { 0 < row_room_in (drop from row.now) }
     ensures low { from ≤ result }
     ensures high { result < length row.now }
     ensures room { 0 < (part_at row.now result).spare }
-    ensures all { room_in (drop result row.now) ≡ room_in (drop from row.now) }
+    ensures all { row_room_in (drop result row.now) ≡ row_room_in (drop from row.now) }
 {
     let mut index = from;
     while row[index].room() == 0 {
@@ -81,7 +81,7 @@ pub fn first_with_room<W: Ordered, P: Part<W>>(row: &[Counted<W, P>], from: usiz
 
 /// How much room the parts from this one on have, or the largest number where they have more.
 pub fn room_from<W: Ordered, P: Part<W>>(row: &[Counted<W, P>], from: usize) -> usize
-    ensures { result ≡ min usize.MAX (room_in (drop from row.now)) }
+    ensures { result ≡ min usize.MAX (row_room_in (drop from row.now)) }
 {
     let mut room: usize = 0;
     for index in from..row.len() {
@@ -95,11 +95,11 @@ pub fn room_from<W: Ordered, P: Part<W>>(row: &[Counted<W, P>], from: usize) -> 
 pub fn push_at<W: Ordered, P: Part<W>>(row: &mut Vec<Counted<W, P>>, number: usize, write: W)
     requires there { number < length row.old.items }
     requires room { 0 < (part_at row.old.items number).spare }
-    requires behind { writes_in (drop (suc number) row.old.items) ≡ [] }
-    requires countable { length (writes_in row.old.items) + 1 < 2 ^ 64 }
-    ensures writes { writes_in row.new.items ≡ writes_in row.old.items ++ write ∷ [] }
-    ensures room { room_in (drop number row.new.items) + 1 ≡ room_in (drop number row.old.items) }
-    ensures behind { writes_in (drop (suc number) row.new.items) ≡ [] }
+    requires behind { row_writes_in (drop (suc number) row.old.items) ≡ [] }
+    requires countable { length (row_writes_in row.old.items) + 1 < 2 ^ 64 }
+    ensures writes { row_writes_in row.new.items ≡ row_writes_in row.old.items ++ write ∷ [] }
+    ensures room { row_room_in (drop number row.new.items) + 1 ≡ row_room_in (drop number row.old.items) }
+    ensures behind { row_writes_in (drop (suc number) row.new.items) ≡ [] }
     ensures len { length row.new.items ≡ length row.old.items }
 {
     let part = &mut row[number];
@@ -115,8 +115,8 @@ pub struct Taken<W> {
 /// Takes out the first write.
 #[inline]
 pub fn take_first_from<W: Ordered, P: Part<W>>(row: &mut Vec<Counted<W, P>>) -> Taken<W>
-    requires { 0 < length (writes_in row.old.items) }
-    ensures write { slice_get (writes_in row.old.items) 0 ≡ Some result.write }
+    requires { 0 < length (row_writes_in row.old.items) }
+    ensures write { slice_get (row_writes_in row.old.items) 0 ≡ Some result.write }
     ensures taken { TakesOut row.old.items row.new.items 0 result.part }
 {
     let number = first_with_write(row);
@@ -135,11 +135,11 @@ pub fn take_from<W: Ordered, P: Part<W>>(
     place: usize,
     waits_for: Option<usize>,
 ) -> Option<Taken<W>>
-    requires there { place < length (writes_in row.old.items) }
+    requires there { place < length (row_writes_in row.old.items) }
     requires class { ForSome waits_for (λ class. class < 8) }
-    ensures held_back { is_none result ≡ is_held_back W.order waits_for (take place (writes_in row.old.items)) }
+    ensures held_back { is_none result ≡ is_held_back W.order waits_for (take place (row_writes_in row.old.items)) }
     ensures rests { IfNone result (row.new.items ≡ row.old.items) }
-    ensures write { IfSome result (λ taken. slice_get (writes_in row.old.items) place ≡ Some taken.write) }
+    ensures write { IfSome result (λ taken. slice_get (row_writes_in row.old.items) place ≡ Some taken.write) }
     ensures taken { IfSome result (λ taken. TakesOut row.old.items row.new.items place taken.part) }
 {
     let spot = find_spot(row, place, waits_for)?;
@@ -160,7 +160,7 @@ pub fn reserve_from<W: Ordered, P: Part<W>>(
 ) -> Result<(), AllocError>
     requires { from ≤ length row.old.items }
     ensures kept { KeepsWrites P.most row.old.items row.new.items }
-    ensures ok { OnOk result (min more (left_in P.most (64 - from) (drop from row.new.items)) ≤ room_in (drop from row.new.items)) }
+    ensures ok { OnOk result (min more (left_in P.most (64 - from) (drop from row.new.items)) ≤ row_room_in (drop from row.new.items)) }
 {
     let mut room: usize = 0;
     for number in from..ROW_MOST {

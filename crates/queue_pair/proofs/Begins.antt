@@ -1,7 +1,7 @@
 -- A queue begins a frame where its port does, and finds an entry where its port does.
 use Rattle.std.proofs.Common.{◌≡◌, ℕ, Bool, true, false, not, Some, None, ap, if◌then◌else◌}
 use Rattle.bridge_pair.specs.Bridge.{Bridge}
-use Rattle.frame_ring.specs.Calls.{BeginsFrame as PortBegins, begin_answer as port_begin_answer, look_answer as port_look_answer}
+use Rattle.frame_ring.specs.Calls.{PortBeginsFrame as PortBegins, port_begin_answer, port_look_answer}
 use Rattle.frame_ring.specs.declared.RingLook.{RingLook}
 use Rattle.frame_ring.specs.declared.RingLook.TheVariants.{Ready as RingReady, Empty as RingEmpty, PeerDown as RingPeerDown, VerDiffers as RingVerDiffers, Long as RingLong, OutOfTurn as RingOutOfTurn}
 use Rattle.pair_model.specs.Link.{is_up}

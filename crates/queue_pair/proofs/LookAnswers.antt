@@ -3,11 +3,11 @@ use Rattle.std.proofs.Common.{◌≡◌, ◌∙◌, Bool, true, false, not, refl
 use Rattle.bridge_pair.specs.Bridge.{Bridge}
 use Rattle.pair_model.specs.Headers.{Found, NoEntry, ALinkDownEntry, AnotherVersion, TooManyBytes, AnEntry}
 use Rattle.frame_ring.specs.Port.{PortState, with_receiving}
-use Rattle.frame_ring.specs.Calls.{entry_found, look_found, found_seen, look_answer as port_look_answer, after_look as port_after_look}
+use Rattle.frame_ring.specs.Calls.{entry_found, look_found, found_seen, port_look_answer, port_after_look}
 use Rattle.frame_ring.specs.declared.RingLook.{RingLook}
 use Rattle.frame_ring.specs.declared.RingLook.TheVariants.{Ready as RingReady, Empty as RingEmpty, PeerDown as RingPeerDown, VerDiffers as RingVerDiffers, Long as RingLong, OutOfTurn as RingOutOfTurn}
 use Rattle.lane_model.specs.Tests.{is_idle}
-use Rattle.queue_pair.specs.Gates.{after_look, after_look_answer, answer_of_look, is_joined, look_answer}
+use Rattle.queue_pair.specs.Gates.{queue_after_look, after_look_answer, answer_of_look, is_joined, look_answer}
 use Rattle.queue_pair.specs.Queue.{QueueState, with_port}
 use Rattle.queue_pair.specs.declared.LookAnswer.{LookAnswer}
 use Rattle.queue_pair.specs.declared.LookAnswer.TheVariants.{NotReady as NotJoined, Closed as QueueClosed}
@@ -60,16 +60,16 @@ pub answers_by_port : (queue : QueueState) (bridge : Bridge) → is_joined queue
 answers_by_port queue bridge joined opened = open_answer (is_joined queue bridge) queue.closed (answer_of_look (port_look_answer queue.port bridge)) joined opened
 
 -- a look leaves a queue as it is where it isn't joined
-pub unchanged_unjoined : (queue : QueueState) (bridge : Bridge) → is_joined queue bridge ≡ false → after_look queue bridge ≡ queue
+pub unchanged_unjoined : (queue : QueueState) (bridge : Bridge) → is_joined queue bridge ≡ false → queue_after_look queue bridge ≡ queue
 unchanged_unjoined queue bridge unjoined = ap (λ answer. after_look_answer answer queue (port_after_look queue.port bridge)) (answers_unjoined queue bridge unjoined)
 
 -- and where it is closed
-pub unchanged_closed : (queue : QueueState) (bridge : Bridge) → is_joined queue bridge ≡ true → queue.closed ≡ true → after_look queue bridge ≡ queue
+pub unchanged_closed : (queue : QueueState) (bridge : Bridge) → is_joined queue bridge ≡ true → queue.closed ≡ true → queue_after_look queue bridge ≡ queue
 unchanged_closed queue bridge joined closed = ap (λ answer. after_look_answer answer queue (port_after_look queue.port bridge)) (answers_closed queue bridge joined closed)
 
 -- what a look leaves of a queue that is joined and open
 pub looked_is : (queue : QueueState) (bridge : Bridge) (look : RingLook) (port : PortState) → is_joined queue bridge ≡ true → queue.closed ≡ false
-    → look ≡ port_look_answer queue.port bridge → port ≡ port_after_look queue.port bridge → after_look queue bridge ≡ looked look queue port
+    → look ≡ port_look_answer queue.port bridge → port ≡ port_after_look queue.port bridge → queue_after_look queue bridge ≡ looked look queue port
 looked_is queue bridge look port joined opened look_is port_is =
     rw look_is (rw port_is (
     ap (λ answer. after_look_answer answer queue (port_after_look queue.port bridge)) (answers_by_port queue bridge joined opened)

@@ -2,7 +2,7 @@
 use Rattle.std.proofs.Common.{◌≡◌, ◌||◌, ℕ, Bool, true, false, not, Some, None, is_some, refl, nat_lt, if◌then◌else◌}
 use Rattle.step_kinds.specs.declared.lanes.Begun.TheVariants.{Ok as BegunOk, TooLong as FrameTooLong, Busy as PortBusy, NoRoom as RingFull}
 use Rattle.frame_ring.specs.Calls.{free_seen, head_seen, index_word_seen, sizes_seen}
-use Rattle.frame_ring.specs.Port.{is_busy}
+use Rattle.frame_ring.specs.Port.{is_port_busy}
 use Rattle.pair_model.specs.Link.{is_up}
 use Rattle.pair_model.specs.Sizes.{pieces_in}
 use Rattle.queue_pair.specs.Gates.{answer_unless, is_joined}
@@ -26,4 +26,4 @@ pub refuses_where_begin_would : RefusesWhereBeginWould
 refuses_where_begin_would queue bridge len =
     by_tests len (sizes_seen queue.port).most (head_seen queue.port) (index_word_seen queue.port bridge) queue.port.sending.told
     (is_up bridge.link.state) (is_joined queue bridge) queue.closed
-    (nat_lt (sizes_seen queue.port).most len) (is_busy queue.port.sending) (nat_lt (free_seen queue.port bridge) (pieces_in (sizes_seen queue.port).largest len))
+    (nat_lt (sizes_seen queue.port).most len) (is_port_busy queue.port.sending) (nat_lt (free_seen queue.port bridge) (pieces_in (sizes_seen queue.port).largest len))

@@ -6,7 +6,7 @@ use Rattle.std.specs.Prelude.{◌≡◌, ℕ, List, length, IfOk, OnErr, OnOk, R
 use Rattle.bridge_pair.specs.Bridge.{Bridge}
 use Rattle.frame_ring.specs.Calls.{TouchedByBegin, TouchedByDown, TouchedByFlags, TouchedByLook}
 use Rattle.frame_ring.specs.PortCalls.{HasPromised, HasPromisedBoth}
-use Rattle.queue_pair.specs.Gates.{FindsEntry, after_begin, after_look, after_qpdown, begin_answer, look_answer, qpdown_answer}
+use Rattle.queue_pair.specs.Gates.{FindsEntry, queue_after_begin, queue_after_look, after_qpdown, begin_answer, look_answer, qpdown_answer}
 use Rattle.queue_pair.specs.Queue.{QueueState}
 use Rattle.queue_pair.specs.declared.BeginAnswer.{BeginAnswer}
 use Rattle.queue_pair.specs.declared.BeginAnswer.TheVariants.{Ok as IsBegun}
@@ -16,7 +16,7 @@ pub record HasBegunOnQueue {E : Type 0} (old new : QueueState) (early late : Bri
   -- the frame is begun, or refused for the first reason that holds, the queue's own before the port's
   pub answer : IfOk result (λ answer. answer ≡ begin_answer old early (length frame))
   -- where it is begun its writes are left to post; a refusal changes nothing
-  pub after : OnOk result (new ≡ after_begin old early frame)
+  pub after : OnOk result (new ≡ queue_after_begin old early frame)
   -- out of memory leaves the queue as it was
   pub err : OnErr result (new ≡ old)
   -- and comes only if the frame was to be begun
@@ -30,7 +30,7 @@ pub record HasBegunUnrefusedOnQueue {E : Type 0} (old new : QueueState) (early l
   -- the result is the number under which it is begun
   pub number : IfOk result (λ number. begin_answer old early (length frame) ≡ IsBegun number)
   -- its writes are left to post
-  pub after : OnOk result (new ≡ after_begin old early frame)
+  pub after : OnOk result (new ≡ queue_after_begin old early frame)
   -- out of memory leaves the queue as it was
   pub err : OnErr result (new ≡ old)
   -- the port has promised what the writes need
@@ -54,7 +54,7 @@ pub record HasLookedOnQueue {E : Type 0} (old new : QueueState) (early late : Br
   -- the answer is the queue's first refusal, else what stands in the next slot
   pub answer : IfOk result (λ answer. answer ≡ look_answer old early)
   -- an entry that is found is at hand to be copied, and a link-down entry closes the queue; else nothing changes
-  pub after : OnOk result (new ≡ after_look old early)
+  pub after : OnOk result (new ≡ queue_after_look old early)
   -- out of memory leaves the queue as it was
   pub err : OnErr result (new ≡ old)
   -- and comes only if an entry is found
@@ -66,7 +66,7 @@ pub record HasLookedOnQueue {E : Type 0} (old new : QueueState) (early late : Br
 -- the same of an entry that is there
 pub record HasFoundOnQueue {X E : Type 0} (old new : QueueState) (early late : Bridge) (result : Result X E) : Type 0 where
   -- the entry is at hand to be copied
-  pub after : OnOk result (new ≡ after_look old early)
+  pub after : OnOk result (new ≡ queue_after_look old early)
   -- out of memory leaves the queue as it was
   pub err : OnErr result (new ≡ old)
   -- the port has promised what it needs to take the entry and to give it back

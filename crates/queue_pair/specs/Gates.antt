@@ -9,7 +9,7 @@ use Rattle.pair_model.specs.Link.{is_up}
 use Rattle.pair_model.specs.Refusals.{Test, OfLink, OfJoined, OfClosed, in_begin_order, in_look_order}
 use Rattle.bridge_pair.specs.Bridge.{Bridge, bells_of, book_of, with_bells}
 use Rattle.frame_ring.specs.Port.{PortState}
-use Rattle.frame_ring.specs.Calls.{begin_answer as port_begin_answer, after_begin as port_after_begin, down_answer, after_down, refuses_answer as port_refuses, look_answer as port_look_answer, after_look as port_after_look}
+use Rattle.frame_ring.specs.Calls.{port_begin_answer, port_after_begin, port_down_answer, after_down, port_refuses_answer as port_refuses, port_look_answer, port_after_look}
 use Rattle.frame_ring.specs.declared.RingLook.{RingLook}
 use Rattle.frame_ring.specs.declared.RingLook.TheVariants.{Ready as RingReady, Empty as RingEmpty, PeerDown as RingPeerDown, VerDiffers as RingVerDiffers, Long as RingLong, OutOfTurn as RingOutOfTurn}
 use Rattle.queue_pair.specs.Queue.{QueueState, with_port}
@@ -56,11 +56,11 @@ begin_answer queue bridge len = answer_unless (sender_refusal queue bridge) (por
 abbrev pub BeginsFrame : QueueState → Bridge → ℕ → Type 0
 BeginsFrame queue bridge len = (number : ℕ) × (begin_answer queue bridge len ≡ IsBegun number)
 
-abbrev pub after_begin : QueueState → Bridge → List ℕ → QueueState
-after_begin queue bridge frame = port_unless (sender_refusal queue bridge) queue (port_after_begin queue.port bridge frame)
+abbrev pub queue_after_begin : QueueState → Bridge → List ℕ → QueueState
+queue_after_begin queue bridge frame = port_unless (sender_refusal queue bridge) queue (port_after_begin queue.port bridge frame)
 
 abbrev pub qpdown_answer : QueueState → Bridge → BeginAnswer
-qpdown_answer queue bridge = answer_unless (sender_refusal queue bridge) (down_answer queue.port bridge)
+qpdown_answer queue bridge = answer_unless (sender_refusal queue bridge) (port_down_answer queue.port bridge)
 
 -- a queue on which a link-down entry was begun is closed at once
 abbrev pub closed_where_begun : BeginAnswer → QueueState → QueueState
@@ -103,8 +103,8 @@ after_look_answer (Ready number len) queue port = with_port queue port
 after_look_answer PeerDown queue port = record queue { closed = true }
 after_look_answer answer queue port = queue
 
-abbrev pub after_look : QueueState → Bridge → QueueState
-after_look queue bridge = after_look_answer (look_answer queue bridge) queue (port_after_look queue.port bridge)
+abbrev pub queue_after_look : QueueState → Bridge → QueueState
+queue_after_look queue bridge = after_look_answer (look_answer queue bridge) queue (port_after_look queue.port bridge)
 
 -- Doorbells
 

@@ -1,6 +1,6 @@
 -- Lists in which each item has a fact about those before it.
 use Rattle.std.proofs.Common.{◌≡◌, ℕ, ◌⊎◌, List, [], ◌∷◌, ◌++◌, sym, subst, inl, inr, append_assoc, append-nil, Contains}
-use Rattle.read_path.specs.InFlight.{Flying, Write, Request, Part, Last}
+use Rattle.read_path.specs.InFlight.{PathFlying, Write, Request, Part, Last}
 use Rattle.read_path.specs.Pushed.{Sent}
 
 -- each item of a list, which stands after others, has a fact about all before it
@@ -47,7 +47,7 @@ ahead_without P Q x weaker gone before (z ∷ xs) ys has = (weaker before z has.
 
 -- Writes in flight
 
-abbrev pub IsWrite : Flying → Type 0
+abbrev pub IsWrite : PathFlying → Type 0
 IsWrite (Write at bytes relaxed) = Unit {0}
 IsWrite (Request number at len) = ⊥
 IsWrite (Part number part) = ⊥

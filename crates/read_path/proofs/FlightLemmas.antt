@@ -2,8 +2,8 @@
 use Rattle.std.proofs.Common.{◌≡◌, ℕ, zero, suc, ◌+◌, ◌<◌, Bool, true, false, ◌&&◌, Some, List, [], ◌∷◌, ◌++◌, length, map, take, drop, remove, slice_get, get_or, is_some, unwrap_or, refl, sym, ap, subst, ◌∙◌, All, add-one, arith}
 use Rattle.std.specs.List.{list_all, sum_by}
 use Rattle.std.proofs.Math.ListN.{get_or-map}
-use Rattle.read_path.specs.InFlight.{Flying, Part, parts_from}
-use Rattle.read_path.specs.Flights.{flying_of}
+use Rattle.read_path.specs.InFlight.{PathFlying, Part, parts_from}
+use Rattle.read_path.specs.Flights.{path_flying_of}
 use Rattle.read_path.specs.declared.flight.InFlight.{InFlight}
 use Rattle.std.proofs.lemmas.List.{take-map, drop-map, map-append}
 use Rattle.std.proofs.lemmas.Bool.{false≢true}
@@ -68,12 +68,12 @@ parts_from_more number part count = subst (λ (n : ℕ). parts_from number part 
   by_count : (part count : ℕ) → parts_from number part (suc count) ≡ parts_from number part count ++ Part number (part + count) ∷ []
   by_count part zero = ap (λ (n : ℕ). Part number n ∷ []) (omega arith)
   by_count part (suc count) =
-      ap (λ (l : List Flying). Part number part ∷ l) (by_count (part + 1) count ∙ ap (λ (n : ℕ). parts_from number (part + 1) count ++ Part number n ∷ []) (omega arith))
+      ap (λ (l : List PathFlying). Part number part ∷ l) (by_count (part + 1) count ∙ ap (λ (n : ℕ). parts_from number (part + 1) count ++ Part number n ∷ []) (omega arith))
 
 -- The first n+1 completions of a read, the last one aside, are the first n and then the one of part n.
 pub parts_more : (number count : ℕ) → parts_from number 0 (count + 1) ≡ parts_from number 0 count ++ Part number count ∷ []
 parts_more number count = parts_from_more number 0 count ∙ ap (λ (n : ℕ). parts_from number 0 count ++ Part number n ∷ []) (omega arith)
 
 -- what stands at a place of a list, seen as the definitions see it
-pub seen_there : (items : List InFlight) (flying : List Flying) (place : ℕ) (x : InFlight) → map flying_of items ≡ flying → x ≡ get_or items place x → get_or flying place (flying_of x) ≡ flying_of x
-seen_there items flying place x same is = ap (λ (l : List Flying). get_or l place (flying_of x)) (sym same) ∙ (get_or-map flying_of items place x ∙ ap flying_of (sym is))
+pub seen_there : (items : List InFlight) (flying : List PathFlying) (place : ℕ) (x : InFlight) → map path_flying_of items ≡ flying → x ≡ get_or items place x → get_or flying place (path_flying_of x) ≡ path_flying_of x
+seen_there items flying place x same is = ap (λ (l : List PathFlying). get_or l place (path_flying_of x)) (sym same) ∙ (get_or-map path_flying_of items place x ∙ ap path_flying_of (sym is))

@@ -4,10 +4,10 @@ use Rattle.std.proofs.lemmas.Bool.{eq-eqb, false≢true}
 use Rattle.step_kinds.specs.declared.names.Side.{Side}
 use Rattle.pair_model.specs.Both.{at_side}
 use Rattle.pair_model.specs.Link.{is_up}
-use Rattle.read_path.specs.InFlight.{Flying, Write, Request, Part, Last, lands_after, may_pass_all}
+use Rattle.read_path.specs.InFlight.{PathFlying, Write, Request, Part, Last, lands_after, may_pass_all}
 use Rattle.read_path.specs.Numbers.{reads_in, landings_in}
-use Rattle.read_path.specs.Path.{PathState, fresh_path, answer_for, landing_of, land_answer}
-use Rattle.read_path.specs.PathLog.{Entry, answer_to, after_step, log_from}
+use Rattle.read_path.specs.Path.{PathState, fresh_path, path_answer_for, landing_of, path_land_answer}
+use Rattle.read_path.specs.PathLog.{PathEntry, path_answer_to, path_after_step, path_log_from}
 use Rattle.read_path.specs.Pushed.{read_entry, request_entry}
 use Rattle.read_path.specs.declared.steps.PathStep.{PathStep}
 use Rattle.read_path.specs.declared.steps.PathAnswer.{PathAnswer}
@@ -70,12 +70,12 @@ number_landed (LandedPart number part) = 0
 number_landed (Whole number bytes) = 0
 
 -- where a request lands, one of its number was in flight
-request_pending : (path : PathState) (side : Side) (place number : ℕ) → land_answer path side place ≡ LandedRequest number → 1 ≤ pending number (at_side path.sides side).flight
+request_pending : (path : PathState) (side : Side) (place number : ℕ) → path_land_answer path side place ≡ LandedRequest number → 1 ≤ pending number (at_side path.sides side).flight
 request_pending path side place number is = by_flying (slice_get flight place) refl is where
-  flight : List Flying
+  flight : List PathFlying
   flight = (at_side path.sides side).flight
 
-  by_what : (what : Flying) → slice_get flight place ≡ Some what → landing_of what ≡ LandedRequest number → 1 ≤ pending number flight
+  by_what : (what : PathFlying) → slice_get flight place ≡ Some what → landing_of what ≡ LandedRequest number → 1 ≤ pending number flight
   by_what (Write at bytes relaxed) there is = absurd (false≢true (ap is_request is))
   by_what (Request other at len) there is =
       let without = pending_without number flight place (Request other at len) there in
@@ -84,60 +84,60 @@ request_pending path side place number is = by_flying (slice_get flight place) r
   by_what (Part other part) there is = absurd (false≢true (ap is_request is))
   by_what (Last other bytes) there is = absurd (false≢true (ap is_request is))
 
-  where_it_may : (what : Flying) → slice_get flight place ≡ Some what → (lands : Bool) → answer_for (Some what) lands ≡ LandedRequest number → 1 ≤ pending number flight
+  where_it_may : (what : PathFlying) → slice_get flight place ≡ Some what → (lands : Bool) → path_answer_for (Some what) lands ≡ LandedRequest number → 1 ≤ pending number flight
   where_it_may what there false is = absurd (false≢true (ap is_request is))
   where_it_may what there true is = by_what what there is
 
-  by_flying : (flying : Option Flying) → slice_get flight place ≡ flying → answer_for flying (lands_after flying (take place flight)) ≡ LandedRequest number → 1 ≤ pending number flight
+  by_flying : (flying : Option PathFlying) → slice_get flight place ≡ flying → path_answer_for flying (lands_after flying (take place flight)) ≡ LandedRequest number → 1 ≤ pending number flight
   by_flying None there is = absurd (false≢true (ap is_request is))
   by_flying (Some what) there is = where_it_may what there (may_pass_all what (take place flight)) is
 
 -- The step that a log goes on with
 
-read_numbered : (log : List Entry) (path : PathState) (step : PathStep) (side : Side) (at len number : ℕ) → NumbersHold log path → entry_of path step ≡ read_entry side at len number → number ≡ reads_in log side
+read_numbered : (log : List PathEntry) (path : PathState) (step : PathStep) (side : Side) (at len number : ℕ) → NumbersHold log path → entry_of path step ≡ read_entry side at len number → number ≡ reads_in log side
 read_numbered log path step side at len number holds is =
     posted_is (is_up path.link) (at_side path.sides side).reads number
-    (ap (λ (s : PathStep). asked_in (answer_to path s)) (sym (ap (λ (e : Entry). e.step) is)) ∙ ap (λ (e : Entry). asked_in e.answer) is)
+    (ap (λ (s : PathStep). asked_in (path_answer_to path s)) (sym (ap (λ (e : PathEntry). e.step) is)) ∙ ap (λ (e : PathEntry). asked_in e.answer) is)
     ∙ (holds.sides side).reads
 
-request_once : (log : List Entry) (path : PathState) (step : PathStep) (side : Side) (place number : ℕ) → NumbersHold log path → entry_of path step ≡ request_entry side place number → landings_in log side number ≡ 0
+request_once : (log : List PathEntry) (path : PathState) (step : PathStep) (side : Side) (place number : ℕ) → NumbersHold log path → entry_of path step ≡ request_entry side place number → landings_in log side number ≡ 0
 request_once log path step side place number holds is =
     let some =
     request_pending path side place number
-    (ap (λ (s : PathStep). landing_in (answer_to path s)) (sym (ap (λ (e : Entry). e.step) is)) ∙ ap (λ (e : Entry). landing_in e.answer) is) in
+    (ap (λ (s : PathStep). landing_in (path_answer_to path s)) (sym (ap (λ (e : PathEntry). e.step) is)) ∙ ap (λ (e : PathEntry). landing_in e.answer) is) in
     let once = (holds.sides side).once number in
     omega (arith, some, once)
 
 -- Logs
 
-abbrev head_or : Entry → List Entry → Entry
+abbrev head_or : PathEntry → List PathEntry → PathEntry
 head_or e [] = e
 head_or e (x ∷ xs) = x
 
-abbrev rest_of : List Entry → List Entry
+abbrev rest_of : List PathEntry → List PathEntry
 rest_of [] = []
 rest_of (x ∷ xs) = xs
 
-abbrev is_empty : List Entry → Bool
+abbrev is_empty : List PathEntry → Bool
 is_empty [] = true
 is_empty (x ∷ xs) = false
 
 -- where a log has an entry, the path before it is one of whose log the numbers hold
-record StandsAt (before : List Entry) (entry : Entry) : Type 0 where
+record StandsAt (before : List PathEntry) (entry : PathEntry) : Type 0 where
   path : PathState
   step : PathStep
   holds : NumbersHold before path
   is : entry_of path step ≡ entry
 
-stands_from : (steps : List PathStep) (log : List Entry) (path : PathState) (before after : List Entry) (entry : Entry) → NumbersHold log path → log_from path steps ≡ before ++ entry ∷ after → StandsAt (log ++ before) entry
+stands_from : (steps : List PathStep) (log : List PathEntry) (path : PathState) (before after : List PathEntry) (entry : PathEntry) → NumbersHold log path → path_log_from path steps ≡ before ++ entry ∷ after → StandsAt (log ++ before) entry
 stands_from [] log path [] after entry holds is = absurd (false≢true (sym (ap is_empty is)))
 stands_from [] log path (e ∷ before) after entry holds is = absurd (false≢true (sym (ap is_empty is)))
 stands_from (step ∷ steps) log path [] after entry holds is =
-    subst (λ (l : List Entry). StandsAt l entry) (sym (append-nil log)) (record { path = path; step = step; holds = holds; is = ap (head_or entry) is })
+    subst (λ (l : List PathEntry). StandsAt l entry) (sym (append-nil log)) (record { path = path; step = step; holds = holds; is = ap (head_or entry) is })
 stands_from (step ∷ steps) log path (e ∷ before) after entry holds is =
-    let made : Entry = entry_of path step in
-    subst (λ (l : List Entry). StandsAt l entry) (append_assoc log (made ∷ []) before ∙ ap (λ (x : Entry). log ++ x ∷ before) (ap (head_or e) is))
-    (stands_from steps (log ++ made ∷ []) (after_step path step) before after entry (numbers_after log path step holds) (ap rest_of is))
+    let made : PathEntry = entry_of path step in
+    subst (λ (l : List PathEntry). StandsAt l entry) (append_assoc log (made ∷ []) before ∙ ap (λ (x : PathEntry). log ++ x ∷ before) (ap (head_or e) is))
+    (stands_from steps (log ++ made ∷ []) (path_after_step path step) before after entry (numbers_after log path step holds) (ap rest_of is))
 
 -- In the log of any steps the number of a read is how many reads its side made before it.
 pub reads_are_numbered : ReadsAreNumbered

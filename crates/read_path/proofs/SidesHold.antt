@@ -10,9 +10,9 @@ use Rattle.step_kinds.specs.Sides.{other_side}
 use Rattle.step_kinds.specs.declared.names.Side.{Side}
 use Rattle.step_kinds.specs.declared.names.Side.TheVariants.{A, B}
 use Rattle.pair_model.specs.Both.{at_side}
-use Rattle.read_path.specs.InFlight.{Flying, Write, Request, Part, Last, kind_of, may_pass_all}
-use Rattle.read_path.specs.Path.{SideState, with_flight, with_memory}
-use Rattle.read_path.specs.PathLog.{Entry}
+use Rattle.read_path.specs.InFlight.{PathFlying, Write, Request, Part, Last, path_kind_of, may_pass_all}
+use Rattle.read_path.specs.Path.{SideState, path_with_flight, path_with_memory}
+use Rattle.read_path.specs.PathLog.{PathEntry}
 use Rattle.read_path.specs.Pushed.{Sent, SideTold, told_of, read_entry, request_entry}
 use Rattle.read_path.proofs.Ahead.{AllAhead, ahead_append, ahead_map, ahead_at, ahead_without, IsWrite, Flies, flies_left, flies_right, flies_without, Waits}
 use Rattle.read_path.proofs.Holds.{RequestFact, Fact, SentFact, whats, SideHolds}
@@ -39,7 +39,7 @@ waits_more landed more ahead w within (inl has) = inl (within w has)
 waits_more landed more ahead w within (inr flies) = inr flies
 
 -- The fact of an item in flight outlasts a new log entry, if each write that was landed or ahead of it still is.
-pub fact_grown : (log : List Entry) (e : Entry) (dropped : ℕ) (landed more : List ℕ) (side : Side) (ahead left : List Sent) (what : Flying)
+pub fact_grown : (log : List PathEntry) (e : PathEntry) (dropped : ℕ) (landed more : List ℕ) (side : Side) (ahead left : List Sent) (what : PathFlying)
     → ((w : ℕ) → Waits landed ahead w → Waits more left w) → Fact log dropped landed side ahead what → Fact (log ++ e ∷ []) dropped more side left what
 fact_grown log e dropped landed more side ahead left (Write at bytes relaxed) grow fact = tt
 fact_grown log e dropped landed more side ahead left (Part number part) grow fact = tt
@@ -67,7 +67,7 @@ fact_grown log e dropped landed more side ahead left (Last number bytes) grow fa
 }
 
 -- The facts of all items in flight from a side outlast a new log entry, if all writes that had landed still have.
-pub facts_grown : (log : List Entry) (e : Entry) (dropped : ℕ) (landed more : List ℕ) (side : Side) (flight : List Sent) → Within landed more
+pub facts_grown : (log : List PathEntry) (e : PathEntry) (dropped : ℕ) (landed more : List ℕ) (side : Side) (flight : List Sent) → Within landed more
     → AllAhead (SentFact log dropped landed side) [] flight → AllAhead (SentFact (log ++ e ∷ []) dropped more side) [] flight
 facts_grown log e dropped landed more side flight within facts =
     ahead_map (SentFact log dropped landed side) (SentFact (log ++ e ∷ []) dropped more side)
@@ -77,7 +77,7 @@ facts_grown log e dropped landed more side flight within facts =
 -- One side, as the log grows
 
 -- nothing happens there
-pub side_same : (log : List Entry) (e : Entry) (dropped : ℕ) (landed more : List ℕ) (side : Side) (told : SideTold) (state : SideState) → Within landed more
+pub side_same : (log : List PathEntry) (e : PathEntry) (dropped : ℕ) (landed more : List ℕ) (side : Side) (told : SideTold) (state : SideState) → Within landed more
     → SideHolds log dropped landed side told state → SideHolds (log ++ e ∷ []) dropped more side told state
 side_same log e dropped landed more side told state within holds = record {
   memory = holds.memory;
@@ -96,17 +96,17 @@ one_of n w has = at_place has.0 has.1 has.2 where
   at_place zero within is = is
   at_place (suc k) within is = absurd (omega (arith, within))
 
-whats_tagged : (place : ℕ) (more : List Flying) → whats (map (λ what. record { place = place; what = what }) more) ≡ more
+whats_tagged : (place : ℕ) (more : List PathFlying) → whats (map (λ what. record { place = place; what = what }) more) ≡ more
 whats_tagged place [] = refl
-whats_tagged place (what ∷ more) = ap (λ (l : List Flying). what ∷ l) (whats_tagged place more)
+whats_tagged place (what ∷ more) = ap (λ (l : List PathFlying). what ∷ l) (whats_tagged place more)
 
-whats_more : (flight : List Sent) (state : List Flying) (place : ℕ) (more : List Flying) → whats flight ≡ state → whats (flight ++ map (λ what. record { place = place; what = what }) more) ≡ state ++ more
+whats_more : (flight : List Sent) (state : List PathFlying) (place : ℕ) (more : List PathFlying) → whats flight ≡ state → whats (flight ++ map (λ what. record { place = place; what = what }) more) ≡ state ++ more
 whats_more flight state place more same =
     let new : List Sent = map (λ what. record { place = place; what = what }) more in
-    map-append (λ (sent : Sent). sent.what) flight new ∙ (ap (λ (l : List Flying). l ++ whats new) same ∙ ap (λ (l : List Flying). state ++ l) (whats_tagged place more))
+    map-append (λ (sent : Sent). sent.what) flight new ∙ (ap (λ (l : List PathFlying). l ++ whats new) same ∙ ap (λ (l : List PathFlying). state ++ l) (whats_tagged place more))
 
 -- these are sent from it, and each has its fact
-pub side_sends : (log : List Entry) (e : Entry) (dropped : ℕ) (landed : List ℕ) (side : Side) (told : SideTold) (state : SideState) (place : ℕ) (more : List Flying) (reads : ℕ)
+pub side_sends : (log : List PathEntry) (e : PathEntry) (dropped : ℕ) (landed : List ℕ) (side : Side) (told : SideTold) (state : SideState) (place : ℕ) (more : List PathFlying) (reads : ℕ)
     → SideHolds log dropped landed side told state
     → AllAhead (SentFact (log ++ e ∷ []) dropped landed side) told.flight (map (λ what. record { place = place; what = what }) more)
     → SideHolds (log ++ e ∷ []) dropped landed side (record { memory = told.memory; flight = told.flight ++ map (λ what. record { place = place; what = what }) more; posted = told.posted })
@@ -125,7 +125,7 @@ side_sends log e dropped landed side told state place more reads holds facts =
     waits_left landed flight new w (inr flies) = inr (flies_left w flight new flies)
 
 -- it posts a write
-pub side_posts : (log : List Entry) (e : Entry) (dropped : ℕ) (landed : List ℕ) (side : Side) (told : SideTold) (state : SideState) (place at : ℕ) (bytes : List ℕ) (relaxed : Bool)
+pub side_posts : (log : List PathEntry) (e : PathEntry) (dropped : ℕ) (landed : List ℕ) (side : Side) (told : SideTold) (state : SideState) (place at : ℕ) (bytes : List ℕ) (relaxed : Bool)
     → SideHolds log dropped landed side told state
     → SideHolds (log ++ e ∷ []) dropped landed side
     (record { memory = told.memory; flight = told.flight ++ record { place = place; what = Write at bytes relaxed } ∷ []; posted = told.posted ++ place ∷ [] })
@@ -147,7 +147,7 @@ side_posts log e dropped landed side told state place at bytes relaxed holds =
     new_or_old w (inr new) waits = inr (flies_right w told.flight (sent ∷ []) (inl (one_of place w new, tt)))
 
 -- it makes a read
-pub side_asks : (log : List Entry) (dropped : ℕ) (landed : List ℕ) (side : Side) (told : SideTold) (state : SideState) (place at len : ℕ)
+pub side_asks : (log : List PathEntry) (dropped : ℕ) (landed : List ℕ) (side : Side) (told : SideTold) (state : SideState) (place at len : ℕ)
     → dropped ≡ (told_of log).dropped → told ≡ at_side (told_of log).sides side
     → SideHolds log dropped landed side told state
     → SideHolds (log ++ read_entry side at len state.reads ∷ []) dropped landed side
@@ -166,7 +166,7 @@ side_asks log dropped landed side told state place at len drops tells holds =
     }
 
 -- what is in flight is dropped
-pub side_drops : (log : List Entry) (dropped : ℕ) (landed : List ℕ) (side : Side) (told : SideTold) (state : SideState) → told.memory ≡ state.memory
+pub side_drops : (log : List PathEntry) (dropped : ℕ) (landed : List ℕ) (side : Side) (told : SideTold) (state : SideState) → told.memory ≡ state.memory
     → SideHolds log dropped landed side (record { memory = told.memory; flight = []; posted = [] }) (record { memory = state.memory; flight = []; reads = state.reads })
 side_drops log dropped landed side told state same = record { memory = same; flight = refl; facts = tt; writes = λ w none. absurd (omega (arith, none.1)) }
 
@@ -190,8 +190,8 @@ split_there (y ∷ flight) (suc place) x is = ap (λ (l : List Sent). y ∷ l) (
 whats_without : (flight : List Sent) (place : ℕ) → whats (remove flight place) ≡ remove (whats flight) place
 whats_without flight place =
     map-append (λ (sent : Sent). sent.what) (take place flight) (drop (suc place) flight)
-    ∙ (ap (λ (l : List Flying). l ++ whats (drop (suc place) flight)) (sym (take-map (λ (sent : Sent). sent.what) place flight))
-    ∙ ap (λ (l : List Flying). take place (whats flight) ++ l) (sym (drop-map (λ (sent : Sent). sent.what) (suc place) flight)))
+    ∙ (ap (λ (l : List PathFlying). l ++ whats (drop (suc place) flight)) (sym (take-map (λ (sent : Sent). sent.what) place flight))
+    ∙ ap (λ (l : List PathFlying). take place (whats flight) ++ l) (sym (drop-map (λ (sent : Sent). sent.what) (suc place) flight)))
 
 -- a write that waited still waits, or landed, once this item is gone
 waits_without : (landed more : List ℕ) (x : Sent) (before after : List Sent) (w : ℕ) → Within landed more → (IsWrite x.what → Contains more x.place)
@@ -203,17 +203,17 @@ waits_without landed more x before after w within lands (inr flies) = gone (flie
   gone (inr is) = inl (subst (λ (n : ℕ). Contains more n) is.0 (lands is.1))
 
 -- what stands at a place leaves it
-pub side_loses : (log : List Entry) (e : Entry) (dropped : ℕ) (landed more : List ℕ) (side : Side) (told : SideTold) (state : SideState) (place : ℕ) (x : Sent)
+pub side_loses : (log : List PathEntry) (e : PathEntry) (dropped : ℕ) (landed more : List ℕ) (side : Side) (told : SideTold) (state : SideState) (place : ℕ) (x : Sent)
     → Within landed more → (IsWrite x.what → Contains more x.place) → slice_get told.flight place ≡ Some x
     → SideHolds log dropped landed side told state
-    → SideHolds (log ++ e ∷ []) dropped more side (record { memory = told.memory; flight = remove told.flight place; posted = told.posted }) (with_flight state (remove state.flight place))
+    → SideHolds (log ++ e ∷ []) dropped more side (record { memory = told.memory; flight = remove told.flight place; posted = told.posted }) (path_with_flight state (remove state.flight place))
 side_loses log e dropped landed more side told state place x within lands there holds =
     let before : List Sent = take place told.flight in
     let after : List Sent = drop (suc place) told.flight in
     let split : told.flight ≡ before ++ x ∷ after = split_there told.flight place x there in
     record {
       memory = holds.memory;
-      flight = whats_without told.flight place ∙ ap (λ (l : List Flying). remove l place) holds.flight;
+      flight = whats_without told.flight place ∙ ap (λ (l : List PathFlying). remove l place) holds.flight;
       facts =
           ahead_without (SentFact log dropped landed side) (SentFact (log ++ e ∷ []) dropped more side) x
           (λ b z fact. fact_grown log e dropped landed more side b b z.what (λ w waits. waits_more landed more b w within waits) fact)
@@ -223,15 +223,15 @@ side_loses log e dropped landed more side told state place x within lands there 
     }
 
 -- a write is stored there
-pub side_stores : (log : List Entry) (dropped : ℕ) (landed : List ℕ) (side : Side) (told : SideTold) (state : SideState) (at : ℕ) (bytes : List ℕ)
+pub side_stores : (log : List PathEntry) (dropped : ℕ) (landed : List ℕ) (side : Side) (told : SideTold) (state : SideState) (at : ℕ) (bytes : List ℕ)
     → SideHolds log dropped landed side told state
-    → SideHolds log dropped landed side (record { memory = written at bytes told.memory; flight = told.flight; posted = told.posted }) (with_memory state (written at bytes state.memory))
+    → SideHolds log dropped landed side (record { memory = written at bytes told.memory; flight = told.flight; posted = told.posted }) (path_with_memory state (written at bytes state.memory))
 side_stores log dropped landed side told state at bytes holds =
     record { memory = ap (λ (mem : List ℕ). written at bytes mem) holds.memory; flight = holds.flight; facts = holds.facts; writes = holds.writes }
 
 -- it passes no posted write
-abbrev pub WaitsForWrites : Flying → Type 0
-WaitsForWrites what = (relaxed : Bool) → may_overtake (kind_of what) (if relaxed then relaxed_kind else strict_kind) ≡ false
+abbrev pub WaitsForWrites : PathFlying → Type 0
+WaitsForWrites what = (relaxed : Bool) → may_overtake (path_kind_of what) (if relaxed then relaxed_kind else strict_kind) ≡ false
 
 -- A read request may pass no posted write, relaxed or strict.
 pub request_waits : (number at len : ℕ) → WaitsForWrites (Request number at len)
@@ -244,30 +244,30 @@ last_waits number bytes true = refl
 last_waits number bytes false = refl
 
 -- what waits for the writes before it has none before it where it may land
-no_write_ahead : (what : Flying) (ahead : List Sent) (w : ℕ) → WaitsForWrites what
+no_write_ahead : (what : PathFlying) (ahead : List Sent) (w : ℕ) → WaitsForWrites what
     → may_pass_all what (whats ahead) ≡ true → ¬ Flies w ahead
 no_write_ahead what [] w waits passes flies = flies
 no_write_ahead what (x ∷ ahead) w waits passes flies = each x.what passes flies (λ rest later. no_write_ahead what ahead w waits rest later) where
-  each : (other : Flying) → (may_overtake (kind_of what) (kind_of other) && may_pass_all what (whats ahead)) ≡ true → ((x.place ≡ w) × IsWrite other) ⊎ Flies w ahead
+  each : (other : PathFlying) → (may_overtake (path_kind_of what) (path_kind_of other) && may_pass_all what (whats ahead)) ≡ true → ((x.place ≡ w) × IsWrite other) ⊎ Flies w ahead
       → (may_pass_all what (whats ahead) ≡ true → Flies w ahead → ⊥) → ⊥
   each (Write at bytes relaxed) passes flies none = false≢true (sym (ap (λ (b : Bool). b && may_pass_all what (whats ahead)) (waits relaxed)) ∙ passes)
   each (Request number at len) passes (inl here) none = here.1
-  each (Request number at len) passes (inr later) none = none (and_right (may_overtake (kind_of what) 2) _ passes) later
+  each (Request number at len) passes (inr later) none = none (and_right (may_overtake (path_kind_of what) 2) _ passes) later
   each (Part number part) passes (inl here) none = here.1
-  each (Part number part) passes (inr later) none = none (and_right (may_overtake (kind_of what) 3) _ passes) later
+  each (Part number part) passes (inr later) none = none (and_right (may_overtake (path_kind_of what) 3) _ passes) later
   each (Last number bytes) passes (inl here) none = here.1
-  each (Last number bytes) passes (inr later) none = none (and_right (may_overtake (kind_of what) 3) _ passes) later
+  each (Last number bytes) passes (inr later) none = none (and_right (may_overtake (path_kind_of what) 3) _ passes) later
 
 -- so each write that it waited for has landed
-pub landed_before : (landed : List ℕ) (what : Flying) (flight : List Sent) (state : List Flying) (place w : ℕ)
+pub landed_before : (landed : List ℕ) (what : PathFlying) (flight : List Sent) (state : List PathFlying) (place w : ℕ)
     → WaitsForWrites what → whats flight ≡ state → may_pass_all what (take place state) ≡ true → Waits landed (take place flight) w → Contains landed w
 landed_before landed what flight state place w waits same passes (inl has) = has
 landed_before landed what flight state place w waits same passes (inr flies) =
     absurd (no_write_ahead what (take place flight) w waits
-    (ap (λ (l : List Flying). may_pass_all what l) (sym (take-map (λ (sent : Sent). sent.what) place flight) ∙ ap (λ (l : List Flying). take place l) same) ∙ passes) flies)
+    (ap (λ (l : List PathFlying). may_pass_all what l) (sym (take-map (λ (sent : Sent). sent.what) place flight) ∙ ap (λ (l : List PathFlying). take place l) same) ∙ passes) flies)
 
 -- the fact of what stands at a place
-pub fact_there : (log : List Entry) (dropped : ℕ) (landed : List ℕ) (side : Side) (told : SideTold) (state : SideState) (place : ℕ) (x : Sent) → slice_get told.flight place ≡ Some x
+pub fact_there : (log : List PathEntry) (dropped : ℕ) (landed : List ℕ) (side : Side) (told : SideTold) (state : SideState) (place : ℕ) (x : Sent) → slice_get told.flight place ≡ Some x
     → SideHolds log dropped landed side told state → Fact log dropped landed side (take place told.flight) x.what
 fact_there log dropped landed side told state place x there holds =
     ahead_at (SentFact log dropped landed side) [] (take place told.flight) (drop (suc place) told.flight) x

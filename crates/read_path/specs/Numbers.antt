@@ -2,7 +2,7 @@
 use Rattle.std.specs.Prelude.{ℕ, ◌==◌, Bool, true, false, List, count_by, if◌then◌else◌}
 use Rattle.step_kinds.specs.Sides.{same_side}
 use Rattle.step_kinds.specs.declared.names.Side.{Side}
-use Rattle.read_path.specs.PathLog.{Entry}
+use Rattle.read_path.specs.PathLog.{PathEntry}
 use Rattle.read_path.specs.declared.steps.PathAnswer.{PathAnswer}
 use Rattle.read_path.specs.declared.steps.PathAnswer.TheVariants.{Asked, Landed}
 use Rattle.read_path.specs.declared.steps.PathLand.TheVariants.{Request}
@@ -21,9 +21,9 @@ lands_read_of side number (Land other place) (Landed (Request landed)) = if same
 lands_read_of side number step answer = false
 
 -- how many reads a side made
-abbrev pub reads_in : List Entry → Side → ℕ
+abbrev pub reads_in : List PathEntry → Side → ℕ
 reads_in log side = count_by (λ entry. is_read_of side entry.step entry.answer) log
 
 -- how often the request of a side's read of this number landed
-abbrev pub landings_in : List Entry → Side → ℕ → ℕ
+abbrev pub landings_in : List PathEntry → Side → ℕ → ℕ
 landings_in log side number = count_by (λ entry. lands_read_of side number entry.step entry.answer) log

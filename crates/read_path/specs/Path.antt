@@ -11,7 +11,7 @@ use Rattle.pair_model.specs.declared.LinkState.{LinkState}
 use Rattle.pair_model.specs.declared.LinkState.TheVariants.{Down, Up, Closing}
 use Rattle.pair_model.specs.declared.LinkRefusal.{LinkRefusal}
 use Rattle.pair_model.specs.declared.LinkRefusal.TheVariants.{NotDown, NotUp, NotClosing, SessionsSpent}
-use Rattle.read_path.specs.InFlight.{Flying, Write, Request, Part, Last, may_land, completions}
+use Rattle.read_path.specs.InFlight.{PathFlying, Write, Request, Part, Last, path_may_land, completions}
 use Rattle.read_path.specs.declared.steps.PostAnswer.{PostAnswer}
 use Rattle.read_path.specs.declared.steps.PostAnswer.TheVariants.{Ok as PostOk, LinkDown as PostLinkDown}
 use Rattle.read_path.specs.declared.steps.ReadAnswer.{ReadAnswer}
@@ -22,7 +22,7 @@ use Rattle.read_path.specs.declared.steps.PathLand.TheVariants.{Nothing, Blocked
 -- one side: the bytes of its memory, what it has in flight, and how many reads it made
 pub record SideState : Type 0 where
   pub memory : List ℕ
-  pub flight : List Flying
+  pub flight : List PathFlying
   pub reads : ℕ
 
 pub record PathState : Type 0 where
@@ -41,27 +41,27 @@ most_read_bytes = 512
 abbrev pub fresh_path : PathState
 fresh_path = record { link = Up; session = 1; sides = both_of (record { memory = replicate memory_bytes 0; flight = []; reads = 0 }) }
 
-abbrev pub with_flight : SideState → List Flying → SideState
-with_flight state flight = record { memory = state.memory; flight = flight; reads = state.reads }
+abbrev pub path_with_flight : SideState → List PathFlying → SideState
+path_with_flight state flight = record { memory = state.memory; flight = flight; reads = state.reads }
 
-abbrev pub with_memory : SideState → List ℕ → SideState
-with_memory state memory = record { memory = memory; flight = state.flight; reads = state.reads }
+abbrev pub path_with_memory : SideState → List ℕ → SideState
+path_with_memory state memory = record { memory = memory; flight = state.flight; reads = state.reads }
 
 -- the path with another state of a side
 abbrev pub with_state : PathState → Side → SideState → PathState
 with_state path side state = record { link = path.link; session = path.session; sides = with_side path.sides side state }
 
 -- the path with these in flight from a side, after what it has in flight
-abbrev pub with_sent : PathState → Side → List Flying → PathState
-with_sent path side more = let state = at_side path.sides side in with_state path side (with_flight state (state.flight ++ more))
+abbrev pub with_sent : PathState → Side → List PathFlying → PathState
+with_sent path side more = let state = at_side path.sides side in with_state path side (path_with_flight state (state.flight ++ more))
 
 -- Posted writes and reads: lost where the link isn't up
 
-abbrev pub post_answer : PathState → PostAnswer
-post_answer path = if is_up path.link then PostOk else PostLinkDown
+abbrev pub path_post_answer : PathState → PostAnswer
+path_post_answer path = if is_up path.link then PostOk else PostLinkDown
 
-abbrev pub after_post : PathState → Side → ℕ → List ℕ → Bool → PathState
-after_post path side at bytes relaxed = if is_up path.link then with_sent path side (Write at bytes relaxed ∷ []) else path
+abbrev pub path_after_post : PathState → Side → ℕ → List ℕ → Bool → PathState
+path_after_post path side at bytes relaxed = if is_up path.link then with_sent path side (Write at bytes relaxed ∷ []) else path
 
 -- the number of the side's next read is how many it made
 abbrev pub read_answer : PathState → Side → ReadAnswer
@@ -71,45 +71,45 @@ read_answer path side = if is_up path.link then Posted (at_side path.sides side)
 abbrev pub asked : SideState → ℕ → ℕ → SideState
 asked state at len = record { memory = state.memory; flight = state.flight ++ Request state.reads at len ∷ []; reads = state.reads + 1 }
 
-abbrev pub after_read : PathState → Side → ℕ → ℕ → PathState
-after_read path side at len = if is_up path.link then with_state path side (asked (at_side path.sides side) at len) else path
+abbrev pub path_after_read : PathState → Side → ℕ → ℕ → PathState
+path_after_read path side at len = if is_up path.link then with_state path side (asked (at_side path.sides side) at len) else path
 
 -- Landings
 
 -- what is said of what landed
-abbrev pub landing_of : Flying → PathLand
+abbrev pub landing_of : PathFlying → PathLand
 landing_of (Write at bytes relaxed) = LandedWrite at (length bytes)
 landing_of (Request number at len) = LandedRequest number
 landing_of (Part number part) = LandedPart number part
 landing_of (Last number bytes) = Whole number bytes
 
-abbrev pub answer_for : Option Flying → Bool → PathLand
-answer_for None lands = Nothing
-answer_for (Some flying) true = landing_of flying
-answer_for (Some flying) false = Blocked
+abbrev pub path_answer_for : Option PathFlying → Bool → PathLand
+path_answer_for None lands = Nothing
+path_answer_for (Some flying) true = landing_of flying
+path_answer_for (Some flying) false = Blocked
 
 -- nothing where none stands at the place, blocked where it may not land, else what landed
-abbrev pub land_answer : PathState → Side → ℕ → PathLand
-land_answer path side place = let flight = (at_side path.sides side).flight in answer_for (slice_get flight place) (may_land flight place)
+abbrev pub path_land_answer : PathState → Side → ℕ → PathLand
+path_land_answer path side place = let flight = (at_side path.sides side).flight in path_answer_for (slice_get flight place) (path_may_land flight place)
 
 -- What reaches a side. A write is stored. A request's bytes are all read, and its completions are posted after what the
 -- side has in flight; they are lost where the link isn't up.
-abbrev pub arrived : PathState → Side → Flying → PathState
-arrived path side (Write at bytes relaxed) = let state = at_side path.sides side in with_state path side (with_memory state (written at bytes state.memory))
-arrived path side (Request number at len) =
+abbrev pub path_arrived : PathState → Side → PathFlying → PathState
+path_arrived path side (Write at bytes relaxed) = let state = at_side path.sides side in with_state path side (path_with_memory state (written at bytes state.memory))
+path_arrived path side (Request number at len) =
     if is_up path.link then with_sent path side (completions number (bytes_at at len (at_side path.sides side).memory)) else path
-arrived path side (Part number part) = path
-arrived path side (Last number bytes) = path
+path_arrived path side (Part number part) = path
+path_arrived path side (Last number bytes) = path
 
 -- what stands at a place of a side's list is taken out, and reaches the peer
-abbrev pub taken : PathState → Side → ℕ → Option Flying → PathState
-taken path side place None = path
-taken path side place (Some flying) =
-    let state = at_side path.sides side in arrived (with_state path side (with_flight state (remove state.flight place))) (other_side side) flying
+abbrev pub path_taken : PathState → Side → ℕ → Option PathFlying → PathState
+path_taken path side place None = path
+path_taken path side place (Some flying) =
+    let state = at_side path.sides side in path_arrived (with_state path side (path_with_flight state (remove state.flight place))) (other_side side) flying
 
-abbrev pub after_land : PathState → Side → ℕ → PathState
-after_land path side place =
-    let flight = (at_side path.sides side).flight in if may_land flight place then taken path side place (slice_get flight place) else path
+abbrev pub path_after_land : PathState → Side → ℕ → PathState
+path_after_land path side place =
+    let flight = (at_side path.sides side).flight in if path_may_land flight place then path_taken path side place (slice_get flight place) else path
 
 -- Memory as it is
 
@@ -122,21 +122,21 @@ abbrev pub unless : Option LinkRefusal → PathState → PathState → PathState
 unless None old new = new
 unless (Some refusal) old new = old
 
-abbrev pub cut_refusal : PathState → Option LinkRefusal
-cut_refusal path = refused_where (not (is_up path.link)) NotUp None
+abbrev pub path_cut_refusal : PathState → Option LinkRefusal
+path_cut_refusal path = refused_where (not (is_up path.link)) NotUp None
 
-abbrev pub after_cut : PathState → PathState
-after_cut path = unless (cut_refusal path) path (record { link = Closing; session = path.session; sides = path.sides })
+abbrev pub path_after_cut : PathState → PathState
+path_after_cut path = unless (path_cut_refusal path) path (record { link = Closing; session = path.session; sides = path.sides })
 
-abbrev pub drop_refusal : PathState → Option LinkRefusal
-drop_refusal path = refused_where (not (is_closing path.link)) NotClosing None
+abbrev pub path_drop_refusal : PathState → Option LinkRefusal
+path_drop_refusal path = refused_where (not (is_closing path.link)) NotClosing None
 
 -- nothing of the session is in flight any more
 abbrev pub emptied : Both SideState → Both SideState
-emptied sides = record { a = with_flight sides.a []; b = with_flight sides.b [] }
+emptied sides = record { a = path_with_flight sides.a []; b = path_with_flight sides.b [] }
 
-abbrev pub after_drop : PathState → PathState
-after_drop path = unless (drop_refusal path) path (record { link = Down; session = path.session; sides = emptied path.sides })
+abbrev pub path_after_drop : PathState → PathState
+path_after_drop path = unless (path_drop_refusal path) path (record { link = Down; session = path.session; sides = emptied path.sides })
 
 abbrev pub relink_refusal : PathState → Option LinkRefusal
 relink_refusal path = refused_where (not (is_down path.link)) NotDown (refused_where (path.session == most_sessions) SessionsSpent None)

@@ -5,9 +5,9 @@ use Rattle.host_memory.specs.Memory.{written, bytes_at}
 use Rattle.step_kinds.specs.Sides.{other_side}
 use Rattle.step_kinds.specs.declared.names.Side.{Side}
 use Rattle.pair_model.specs.Both.{Both, at_side, with_side, both_of}
-use Rattle.read_path.specs.InFlight.{Flying, Write as FlyingWrite, Request as FlyingRequest, Part as FlyingPart, Last as FlyingLast, completions}
+use Rattle.read_path.specs.InFlight.{PathFlying, Write as FlyingWrite, Request as FlyingRequest, Part as FlyingPart, Last as FlyingLast, completions}
 use Rattle.read_path.specs.Path.{memory_bytes}
-use Rattle.read_path.specs.PathLog.{Entry}
+use Rattle.read_path.specs.PathLog.{PathEntry}
 use Rattle.read_path.specs.declared.steps.PathStep.{PathStep}
 use Rattle.read_path.specs.declared.steps.PathStep.TheVariants.{Write, Read, Land, Break, DropDone, Relink}
 use Rattle.read_path.specs.declared.steps.PathAnswer.{PathAnswer}
@@ -20,7 +20,7 @@ use Rattle.read_path.specs.declared.steps.PathLand.TheVariants.{Nothing, Blocked
 -- what is in flight, and the place in the log of the step that sent it
 pub record Sent : Type 0 where
   pub place : ℕ
-  pub what : Flying
+  pub what : PathFlying
 
 -- what a log tells of a side: its memory, what it has in flight, and the places of the writes that it posted in this
 -- session
@@ -48,20 +48,20 @@ abbrev pub with_told : Told → Side → SideTold → Told
 with_told told side new = record { up = told.up; dropped = told.dropped; made = told.made; landed = told.landed; sides = with_side told.sides side new }
 
 -- this step sent these from a side
-abbrev pub with_more : Told → Side → List Flying → Told
+abbrev pub with_more : Told → Side → List PathFlying → Told
 with_more told side more =
     let old = at_side told.sides side in
     with_told told side (record { memory = old.memory; flight = old.flight ++ map (λ what. record { place = told.made; what = what }) more; posted = old.posted })
 
 -- this step posted a write
-abbrev pub with_posted : Told → Side → Told
-with_posted told side =
+abbrev pub path_with_posted : Told → Side → Told
+path_with_posted told side =
     let old = at_side told.sides side in
     with_told told side (record { memory = old.memory; flight = old.flight; posted = old.posted ++ told.made ∷ [] })
 
 -- the write of this place landed at a side
-abbrev pub with_landed : Told → Side → ℕ → ℕ → List ℕ → Told
-with_landed told side place at bytes =
+abbrev pub path_with_landed : Told → Side → ℕ → ℕ → List ℕ → Told
+path_with_landed told side place at bytes =
     let old = at_side told.sides side in
     record {
       up = told.up;
@@ -72,8 +72,8 @@ with_landed told side place at bytes =
     }
 
 -- what reached a side
-abbrev pub told_arrived : Told → Side → ℕ → Flying → Told
-told_arrived told side place (FlyingWrite at bytes relaxed) = with_landed told side place at bytes
+abbrev pub told_arrived : Told → Side → ℕ → PathFlying → Told
+told_arrived told side place (FlyingWrite at bytes relaxed) = path_with_landed told side place at bytes
 told_arrived told side place (FlyingRequest number at len) =
     if told.up then with_more told side (completions number (bytes_at at len (at_side told.sides side).memory)) else told
 told_arrived told side place (FlyingPart number part) = told
@@ -99,8 +99,8 @@ abbrev pub without_flight : SideTold → SideTold
 without_flight old = record { memory = old.memory; flight = []; posted = [] }
 
 -- the link came up, or was lost
-abbrev pub with_link : Told → Bool → Told
-with_link told up = record { up = up; dropped = told.dropped; made = told.made; landed = told.landed; sides = told.sides }
+abbrev pub path_with_link : Told → Bool → Told
+path_with_link told up = record { up = up; dropped = told.dropped; made = told.made; landed = told.landed; sides = told.sides }
 
 -- what was in flight is dropped, and with it the session ends
 abbrev pub with_drop : Told → Told
@@ -115,74 +115,74 @@ with_drop told =
 
 -- what a step with its answer changes; any other step and answer change nothing
 abbrev pub told_by : Told → PathStep → PathAnswer → Told
-told_by told (Write side at bytes relaxed) (Wrote PostOk) = with_posted (with_more told side (FlyingWrite at bytes relaxed ∷ [])) side
+told_by told (Write side at bytes relaxed) (Wrote PostOk) = path_with_posted (with_more told side (FlyingWrite at bytes relaxed ∷ [])) side
 told_by told (Read side at len) (Asked (Posted number)) = with_more told side (FlyingRequest number at len ∷ [])
 told_by told (Land side place) (Landed answer) = if is_landing answer then told_taken told side place (slice_get (at_side told.sides side).flight place) else told
-told_by told Break (Linked None) = with_link told false
+told_by told Break (Linked None) = path_with_link told false
 told_by told DropDone (Linked None) = with_drop told
-told_by told Relink (Linked None) = with_link told true
+told_by told Relink (Linked None) = path_with_link told true
 told_by told step answer = told
 
 -- one step more
 abbrev pub with_step : Told → Told
 with_step told = record { up = told.up; dropped = told.dropped; made = told.made + 1; landed = told.landed; sides = told.sides }
 
-abbrev pub told_after : Told → Entry → Told
+abbrev pub told_after : Told → PathEntry → Told
 told_after told entry = with_step (told_by told entry.step entry.answer)
 
 -- what a log tells
-abbrev pub told_of : List Entry → Told
+abbrev pub told_of : List PathEntry → Told
 told_of log = fold told_after told_at_start log
 
 -- the places of the writes that a side posted so far in this session
-abbrev pub posted_in : List Entry → Side → List ℕ
-posted_in log side = (at_side (told_of log).sides side).posted
+abbrev pub path_posted_in : List PathEntry → Side → List ℕ
+path_posted_in log side = (at_side (told_of log).sides side).posted
 
 -- the places of the writes that landed so far
-abbrev pub landed_in : List Entry → List ℕ
+abbrev pub landed_in : List PathEntry → List ℕ
 landed_in log = (told_of log).landed
 
 -- a side's memory so far
-abbrev pub memory_in : List Entry → Side → List ℕ
+abbrev pub memory_in : List PathEntry → Side → List ℕ
 memory_in log side = (at_side (told_of log).sides side).memory
 
 -- `read N` of a side
-abbrev pub read_entry : Side → ℕ → ℕ → ℕ → Entry
+abbrev pub read_entry : Side → ℕ → ℕ → ℕ → PathEntry
 read_entry side at len number = record { step = Read side at len; answer = Asked (Posted number) }
 
 -- `landed read N` of a side's read
-abbrev pub request_entry : Side → ℕ → ℕ → Entry
+abbrev pub request_entry : Side → ℕ → ℕ → PathEntry
 request_entry side place number = record { step = Land side place; answer = Landed (LandedRequest number) }
 
 -- `data N HEX` of a side's read, which its peer's list brings
-abbrev pub data_entry : Side → ℕ → ℕ → List ℕ → Entry
+abbrev pub data_entry : Side → ℕ → ℕ → List ℕ → PathEntry
 data_entry side place number bytes = record { step = Land (other_side side) place; answer = Landed (Whole number bytes) }
 
 -- The log before `data N HEX` of a side has its `read N` and then its `landed read N`, and the read has pushed what was
 -- posted.
-pub record HasPushed (before : List Entry) (side : Side) (number : ℕ) (bytes : List ℕ) : Type 0 where
+pub record HasPushed (before : List PathEntry) (side : Side) (number : ℕ) (bytes : List ℕ) : Type 0 where
   -- the log before `read N`, and the read
-  pub asking : List Entry
+  pub asking : List PathEntry
   pub at : ℕ
   pub len : ℕ
   -- the log before `landed read N`, and where the request stood in flight
-  pub landing : List Entry
+  pub landing : List PathEntry
   pub place : ℕ
-  pub between : List Entry
-  pub since : List Entry
+  pub between : List PathEntry
+  pub since : List PathEntry
   pub landing_is : landing ≡ asking ++ read_entry side at len number ∷ between
   pub before_is : before ≡ landing ++ request_entry side place number ∷ since
   -- all in one session
   pub one_session : (told_of asking).dropped ≡ (told_of before).dropped
   -- each write that the side posted before the read in that session landed before the request did
-  pub own_writes : All (Contains (landed_in landing)) (posted_in asking side)
+  pub own_writes : All (Contains (landed_in landing)) (path_posted_in asking side)
   -- each write that the peer posted before the request landed, in that session, landed before the data came
-  pub peer_writes : All (Contains (landed_in before)) (posted_in landing (other_side side))
+  pub peer_writes : All (Contains (landed_in before)) (path_posted_in landing (other_side side))
   -- the bytes are what the peer's memory held when the request landed
   pub held : bytes ≡ bytes_at at len (memory_in landing (other_side side))
 
 -- of each `data N HEX` of a log
-abbrev pub Pushed : List Entry → Type 0
+abbrev pub Pushed : List PathEntry → Type 0
 Pushed log =
-    (before after : List Entry) (side : Side) (place number : ℕ) (bytes : List ℕ) → log ≡ before ++ data_entry side place number bytes ∷ after
+    (before after : List PathEntry) (side : Side) (place number : ℕ) (bytes : List ℕ) → log ≡ before ++ data_entry side place number bytes ∷ after
     → HasPushed before side number bytes

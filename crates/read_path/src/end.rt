@@ -3,10 +3,10 @@
 ghost use Rattle.std.specs.Prelude.{◌≡◌, ◌+◌, ◌≤◌, length, IfOk, OnOk, OnErr, slice_get};
 ghost use Rattle.step_kinds.specs.Limits.{most_write_bytes};
 ghost use Rattle.host_memory.specs.Memory.{bytes_at};
-ghost use Rattle.read_path.specs.InFlight.{may_land};
-ghost use Rattle.read_path.specs.Path.{answer_for, landing_of, memory_bytes, most_read_bytes};
-ghost use Rattle.read_path.specs.Flights.{flying_of};
-ghost use Rattle.read_path.specs.Ends.{AreEnds, IsEnd, IsInRange, asks, brings, completions_due, completions_of, end_seen, fresh_end, from_after, posts, promises, reached, stores, to_after};
+ghost use Rattle.read_path.specs.InFlight.{path_may_land};
+ghost use Rattle.read_path.specs.Path.{path_answer_for, landing_of, memory_bytes, most_read_bytes};
+ghost use Rattle.read_path.specs.Flights.{path_flying_of};
+ghost use Rattle.read_path.specs.Ends.{AreEnds, IsPathEnd, IsPathInRange, asks, brings, completions_due, completions_of, path_end_seen, path_fresh_end, from_after, path_posts, promises, reached, stores, to_after};
 
 use crate::PathLand;
 use crate::flight::{Flight, InFlight};
@@ -27,8 +27,8 @@ impl End {
     /// Returns a side whose bytes are all 0, with nothing in flight and no read made. Returns an error if memory runs
     /// out.
     pub fn new(alloc: Global) -> Result<End, AllocError>
-        ensures fresh { IfOk result (λ end. end_seen end ≡ fresh_end) }
-        ensures whole { IfOk result (λ end. IsEnd end) }
+        ensures fresh { IfOk result (λ end. path_end_seen end ≡ path_fresh_end) }
+        ensures whole { IfOk result (λ end. IsPathEnd end) }
     {
         let mut memory = Memory::new(alloc, MEMORY_BYTES)?;
         memory.promise(0, MEMORY_BYTES)?;
@@ -44,7 +44,7 @@ impl End {
     pub fn post(&mut self, at: u32, bytes: &[u8], relaxed: bool) -> Result<(), AllocError>
         requires some { 1 ≤ length bytes.now }
         requires fits { length bytes.now ≤ most_write_bytes }
-        ensures ok { OnOk result (self.new ≡ posts self.old at bytes.now relaxed) }
+        ensures ok { OnOk result (self.new ≡ path_posts self.old at bytes.now relaxed) }
         ensures err { OnErr result (self.new ≡ self.old) }
     {
         self.flight.promise(1)?;
@@ -59,7 +59,7 @@ impl End {
     /// The bytes from an address on, read into the whole of `out`. All of them lie in the memory, which is whole
     /// (`IsEnd`).
     pub fn read(&self, at: u32, out: &mut [u8])
-        requires whole { IsEnd self.now }
+        requires whole { IsPathEnd self.now }
         requires within { at + length out.old ≤ memory_bytes }
         ensures { out.new ≡ bytes_at at (length out.old) self.now.memory.bytes }
     {
@@ -68,7 +68,7 @@ impl End {
 
     /// Stores the bytes of a write of the peer.
     fn store(&mut self, at: u32, bytes: &[u8])
-        requires whole { IsEnd self.old }
+        requires whole { IsPathEnd self.old }
         requires within { at + length bytes.now ≤ memory_bytes }
         ensures { self.new ≡ stores self.old at bytes.now }
     {
@@ -78,7 +78,7 @@ impl End {
     /// Reads what a request of the peer asks for, and posts the completions, for which room was promised. They are lost
     /// where the link isn't up.
     fn answer(&mut self, number: u64, at: u32, room: Items<u8>, up: bool)
-        requires whole { IsEnd self.old }
+        requires whole { IsPathEnd self.old }
         requires some { 1 ≤ length room }
         requires few { length room ≤ most_read_bytes }
         requires within { at + length room ≤ memory_bytes }
@@ -140,7 +140,7 @@ pub fn ask(
 /// memory.
 pub fn land_between(from: &mut End, to: &mut End, up: bool, place: usize) -> PathLand
     requires { AreEnds from.old to.old }
-    ensures answer { result ≡ answer_for (slice_get from.old.flight.flying place) (may_land from.old.flight.flying place) }
+    ensures answer { result ≡ path_answer_for (slice_get from.old.flight.flying place) (path_may_land from.old.flight.flying place) }
     ensures from { from.new ≡ from_after from.old place }
     ensures to { to.new ≡ to_after up from.old to.old place }
     ensures whole { AreEnds from.new to.new }
@@ -159,11 +159,11 @@ pub fn land_between(from: &mut End, to: &mut End, up: bool, place: usize) -> Pat
 
 /// What came off a side's list reaches the peer.
 fn arrive(to: &mut End, up: bool, item: InFlight) -> PathLand
-    requires whole { IsEnd to.old }
-    requires in_range { IsInRange (flying_of item) }
-    requires spare { completions_due (flying_of item) ≤ to.old.flight.spare }
-    ensures answer { result ≡ landing_of (flying_of item) }
-    ensures to { to.new ≡ reached up to.old (flying_of item) }
+    requires whole { IsPathEnd to.old }
+    requires in_range { IsPathInRange (path_flying_of item) }
+    requires spare { completions_due (path_flying_of item) ≤ to.old.flight.spare }
+    ensures answer { result ≡ landing_of (path_flying_of item) }
+    ensures to { to.new ≡ reached up to.old (path_flying_of item) }
 {
     match item {
         InFlight::Write { at, bytes, .. } => {

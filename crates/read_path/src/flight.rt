@@ -3,8 +3,8 @@
 ghost use Rattle.std.specs.Prelude.{◌≡◌, ◌+◌, ◌-◌, ◌<◌, ◌≤◌, [], ◌∷◌, ◌++◌, length, remove, slice_get, option_map, take, IfNone, OnOk, OnErr, OnSome};
 ghost use Rattle.std.specs.List.{list_all};
 ghost use Rattle.order_rules.specs.Transactions.{may_overtake};
-ghost use Rattle.read_path.specs.InFlight.{kind_of, may_land, parts_from};
-ghost use Rattle.read_path.specs.Flights.{flying_of, nothing_flying};
+ghost use Rattle.read_path.specs.InFlight.{path_kind_of, path_may_land, parts_from};
+ghost use Rattle.read_path.specs.Flights.{path_flying_of, nothing_flying};
 
 use order_rules::{COMPLETION, READ_REQUEST, RELAXED, STRICT, full_table};
 use std::alloc::{AllocError, Global};
@@ -43,7 +43,7 @@ pub enum InFlight {
 impl InFlight {
     /// Returns the kind by which the table of order knows it.
     pub fn kind(&self) -> usize
-        ensures value { result ≡ kind_of (flying_of self.now) }
+        ensures value { result ≡ path_kind_of (path_flying_of self.now) }
         ensures small { result < 4 }
     {
         match self {
@@ -103,7 +103,7 @@ impl Flight {
     /// Sends after all else, into room that was promised for at least one more.
     pub fn push(&mut self, item: InFlight)
         requires { 0 < self.old.spare }
-        ensures { self.new ≡ record { flying = self.old.flying ++ flying_of item ∷ []; spare = self.old.spare - 1 } }
+        ensures { self.new ≡ record { flying = self.old.flying ++ path_flying_of item ∷ []; spare = self.old.spare - 1 } }
     {
         self.items.push_back_reserved(item);
         self.spare -= 1;
@@ -111,7 +111,7 @@ impl Flight {
 
     /// Returns whether what stands at this place may land: it stands there, and may pass each of those before it.
     pub fn may_land(&self, place: usize) -> bool
-        ensures { result ≡ may_land self.now.flying place }
+        ensures { result ≡ path_may_land self.now.flying place }
     {
         match self.items.get(place) {
             Some(item) => self.passes(item.kind(), place),
@@ -122,7 +122,7 @@ impl Flight {
     /// Takes out what stands at this place, or answers `None` where nothing does. The room that it leaves isn't
     /// promised.
     pub fn take(&mut self, place: usize) -> Option<InFlight>
-        ensures item { option_map flying_of result ≡ slice_get self.old.flying place }
+        ensures item { option_map path_flying_of result ≡ slice_get self.old.flying place }
         ensures rest { OnSome result (self.new ≡ record self.old { flying = remove self.old.flying place }) }
         ensures none { IfNone result (self.new ≡ self.old) }
     {
@@ -155,7 +155,7 @@ impl Flight {
     fn passes(&self, kind: usize, count: usize) -> bool
         requires kind { kind < 4 }
         requires within { count ≤ length self.now.flying }
-        ensures { result ≡ list_all (λ earlier. may_overtake kind (kind_of earlier)) (take count self.now.flying) }
+        ensures { result ≡ list_all (λ earlier. may_overtake kind (path_kind_of earlier)) (take count self.now.flying) }
     {
         let table = full_table();
         for place in 0..count {

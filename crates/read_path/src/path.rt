@@ -4,7 +4,7 @@ ghost use Rattle.std.specs.Prelude.{◌≡◌, ◌+◌, ◌≤◌, true, length,
 ghost use Rattle.std.specs.Result.{result_err};
 ghost use Rattle.step_kinds.specs.Limits.{most_write_bytes};
 ghost use Rattle.pair_model.specs.Link.{is_up};
-ghost use Rattle.read_path.specs.Path.{after_cut, after_drop, after_land, after_post, after_read, after_relink, cut_refusal, drop_refusal, fresh_path, land_answer, memory_bytes, most_read_bytes, post_answer, read_answer, relink_refusal, shown};
+ghost use Rattle.read_path.specs.Path.{path_after_cut, path_after_drop, path_after_land, path_after_post, path_after_read, after_relink, path_cut_refusal, path_drop_refusal, fresh_path, path_land_answer, memory_bytes, most_read_bytes, path_post_answer, read_answer, relink_refusal, shown};
 
 use crate::end::{End, ask, land_between};
 use crate::{PathLand, PostAnswer, ReadAnswer};
@@ -60,8 +60,8 @@ impl Path {
         requires some { 1 ≤ length bytes.now }
         requires fits { length bytes.now ≤ most_write_bytes }
         requires within { at + length bytes.now ≤ memory_bytes }
-        ensures answer { IfOk result (λ answer. answer ≡ post_answer self.old) }
-        ensures after { OnOk result (self.new ≡ after_post self.old side at bytes.now relaxed) }
+        ensures answer { IfOk result (λ answer. answer ≡ path_post_answer self.old) }
+        ensures after { OnOk result (self.new ≡ path_after_post self.old side at bytes.now relaxed) }
         ensures err { OnErr result (self.new ≡ self.old) }
         ensures wants { OnErr result (is_up self.old.link ≡ true) }
     {
@@ -90,7 +90,7 @@ impl Path {
         requires few { len ≤ most_read_bytes }
         requires within { at + len ≤ memory_bytes }
         ensures answer { IfOk result (λ answer. answer ≡ read_answer self.old side) }
-        ensures after { OnOk result (self.new ≡ after_read self.old side at len) }
+        ensures after { OnOk result (self.new ≡ path_after_read self.old side at len) }
         ensures err { OnErr result (self.new ≡ self.old) }
         ensures wants { OnErr result (is_up self.old.link ≡ true) }
     {
@@ -115,8 +115,8 @@ impl Path {
     ///
     /// It looks at what stands before the place, and at the front costs the same however much is in flight.
     pub fn land(&mut self, side: Side, place: usize) -> PathLand
-        ensures answer { result ≡ land_answer self.old side place }
-        ensures after { self.new ≡ after_land self.old side place }
+        ensures answer { result ≡ path_land_answer self.old side place }
+        ensures after { self.new ≡ path_after_land self.old side place }
     {
         let up = self.is_up();
         match side {
@@ -131,8 +131,8 @@ impl Path {
     ///
     /// [`LinkRefusal::NotUp`] if and only if the link isn't up, and then nothing changes.
     pub fn cut(&mut self) -> Result<(), LinkRefusal>
-        ensures refusal { result_err result ≡ cut_refusal self.old }
-        ensures after { self.new ≡ after_cut self.old }
+        ensures refusal { result_err result ≡ path_cut_refusal self.old }
+        ensures after { self.new ≡ path_after_cut self.old }
     {
         self.link.cut()
     }
@@ -143,8 +143,8 @@ impl Path {
     ///
     /// [`LinkRefusal::NotClosing`] if and only if the link isn't closing, and then nothing changes.
     pub fn drop_done(&mut self) -> Result<(), LinkRefusal>
-        ensures refusal { result_err result ≡ drop_refusal self.old }
-        ensures after { self.new ≡ after_drop self.old }
+        ensures refusal { result_err result ≡ path_drop_refusal self.old }
+        ensures after { self.new ≡ path_after_drop self.old }
     {
         self.link.drop_done()?;
         self.a.flight.discard();

@@ -19,8 +19,8 @@ most_show_bytes = 64
 abbrev pub leaves_memory : ℕ → ℕ → Bool
 leaves_memory at len = nat_lt memory_bytes (at + len)
 
-abbrev pub order_of : List ℕ → Option Bool
-order_of word = if bytes_eq word (codes "relaxed") then Some true else if bytes_eq word (codes "strict") then Some false else None
+abbrev pub reads_order_of : List ℕ → Option Bool
+reads_order_of word = if bytes_eq word (codes "relaxed") then Some true else if bytes_eq word (codes "strict") then Some false else None
 
 -- `write S AT HEX ORDER`
 abbrev pub write_step : List ℕ → List ℕ → List ℕ → List ℕ → Result PathStep Cause
@@ -28,7 +28,7 @@ write_step side_text at_text hex_text order_text = do
   side ← side_word side_text
   at ← number_word at_text
   bytes ← hex_word hex_text
-  relaxed ← found_or (order_of order_text) UnknownWord
+  relaxed ← found_or (reads_order_of order_text) UnknownWord
   _ ← fault_if (length bytes == 0 || (nat_lt most_write_bytes (length bytes) || leaves_memory at (length bytes))) BadNumber
   Ok (Write side at bytes relaxed)
 
@@ -42,8 +42,8 @@ read_step side_text at_text len_text = do
   Ok (Read side at len)
 
 -- `land S K`
-abbrev pub land_step : List ℕ → List ℕ → Result PathStep Cause
-land_step side_text place_text = do
+abbrev pub reads_land_step : List ℕ → List ℕ → Result PathStep Cause
+reads_land_step side_text place_text = do
   side ← side_word side_text
   place ← number_word place_text
   Ok (Land side place)
@@ -72,7 +72,7 @@ range_step word side_text at_text len_text =
     else Err UnknownWord
 
 abbrev pub place_step : List ℕ → List ℕ → List ℕ → Result PathStep Cause
-place_step word side_text place_text = if bytes_eq word (codes "land") then land_step side_text place_text else Err UnknownWord
+place_step word side_text place_text = if bytes_eq word (codes "land") then reads_land_step side_text place_text else Err UnknownWord
 
 abbrev pub bytes_step : List ℕ → List ℕ → List ℕ → List ℕ → List ℕ → Result PathStep Cause
 bytes_step word side_text at_text hex_text order_text =
@@ -86,21 +86,21 @@ step_of (word ∷ side ∷ at ∷ len ∷ []) = range_step word side at len
 step_of (word ∷ side ∷ at ∷ bytes ∷ order ∷ []) = bytes_step word side at bytes order
 step_of words = Err UnknownWord
 
-abbrev pub is_header : List (List ℕ) → Bool
-is_header (word ∷ version ∷ []) = bytes_eq word (codes "reads") && bytes_eq version (codes "1")
-is_header words = false
+abbrev pub is_reads_header : List (List ℕ) → Bool
+is_reads_header (word ∷ version ∷ []) = bytes_eq word (codes "reads") && bytes_eq version (codes "1")
+is_reads_header words = false
 
 -- the first line
-abbrev pub header_line : List ℕ → Result (Option PathStep) Cause
-header_line line = do
+abbrev pub reads_header_line : List ℕ → Result (Option PathStep) Cause
+reads_header_line line = do
   _ ← fault_if (not (is_text line)) NotText
-  _ ← fault_if (not (is_header (words_of line))) BadHeader
+  _ ← fault_if (not (is_reads_header (words_of line))) BadHeader
   Ok None
 
 -- what line n gives, where this many steps stand before it: the header and a line that says nothing give none
-abbrev pub line_gives : ℕ → ℕ → List ℕ → Result (Option PathStep) Cause
-line_gives n steps line =
-    if n == 1 then header_line line
+abbrev pub reads_line_gives : ℕ → ℕ → List ℕ → Result (Option PathStep) Cause
+reads_line_gives n steps line =
+    if n == 1 then reads_header_line line
     else if is_skipped line then Ok None
     else do
       _ ← fault_if (not (is_text line)) NotText
@@ -125,10 +125,10 @@ go_on n (Ok None) without with_one = without
 go_on n (Ok (Some step)) without with_one = before_more n step with_one
 
 -- the steps of the lines from number n on, where this many steps stand before them, or the number of the first bad line
-abbrev pub read_lines : ℕ → ℕ → List (List ℕ) → Result (List LineStep) ℕ
-read_lines n steps [] = Ok []
-read_lines n steps (line ∷ lines) = go_on n (line_gives n steps line) (read_lines (n + 1) steps lines) (read_lines (n + 1) (steps + 1) lines)
+abbrev pub reads_lines : ℕ → ℕ → List (List ℕ) → Result (List LineStep) ℕ
+reads_lines n steps [] = Ok []
+reads_lines n steps (line ∷ lines) = go_on n (reads_line_gives n steps line) (reads_lines (n + 1) steps lines) (reads_lines (n + 1) (steps + 1) lines)
 
 -- the steps of a text, or the number of its first bad line
-abbrev pub steps_of : List ℕ → Result (List LineStep) ℕ
-steps_of bytes = read_lines 1 0 (lines_of bytes)
+abbrev pub reads_steps_of : List ℕ → Result (List LineStep) ℕ
+reads_steps_of bytes = reads_lines 1 0 (lines_of bytes)

@@ -21,13 +21,13 @@ abbrev pub read_text : ReadAnswer → List ℕ
 read_text (Posted number) = word_and_numbers (codes "read") (number ∷ [])
 read_text ReadLinkDown = codes "linkdown"
 
-abbrev pub land_text : PathLand → List ℕ
-land_text Nothing = codes "nothing"
-land_text Blocked = codes "blocked"
-land_text (Write at len) = word_and_numbers (codes "landed write") (at ∷ len ∷ [])
-land_text (Request number) = word_and_numbers (codes "landed read") (number ∷ [])
-land_text (Part number part) = word_and_numbers (codes "part") (number ∷ part ∷ [])
-land_text (Whole number bytes) = word_and_numbers (codes "data") (number ∷ []) ++ 32 ∷ encode_lower bytes
+abbrev pub reads_land_text : PathLand → List ℕ
+reads_land_text Nothing = codes "nothing"
+reads_land_text Blocked = codes "blocked"
+reads_land_text (Write at len) = word_and_numbers (codes "landed write") (at ∷ len ∷ [])
+reads_land_text (Request number) = word_and_numbers (codes "landed read") (number ∷ [])
+reads_land_text (Part number part) = word_and_numbers (codes "part") (number ∷ part ∷ [])
+reads_land_text (Whole number bytes) = word_and_numbers (codes "data") (number ∷ []) ++ 32 ∷ encode_lower bytes
 
 -- a relink cleans and enables both sides, so the last two never come
 abbrev pub refusal_text : LinkRefusal → List ℕ
@@ -42,9 +42,9 @@ abbrev pub link_text : Option LinkRefusal → List ℕ
 link_text None = codes "ok"
 link_text (Some refusal) = refusal_text refusal
 
-abbrev pub answer_text : PathAnswer → List ℕ
-answer_text (Wrote answer) = post_text answer
-answer_text (Asked answer) = read_text answer
-answer_text (Landed answer) = land_text answer
-answer_text (Shown bytes) = codes "mem " ++ encode_lower bytes
-answer_text (Linked refusal) = link_text refusal
+abbrev pub reads_answer_text : PathAnswer → List ℕ
+reads_answer_text (Wrote answer) = post_text answer
+reads_answer_text (Asked answer) = read_text answer
+reads_answer_text (Landed answer) = reads_land_text answer
+reads_answer_text (Shown bytes) = codes "mem " ++ encode_lower bytes
+reads_answer_text (Linked refusal) = link_text refusal

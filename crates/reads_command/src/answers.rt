@@ -2,9 +2,9 @@
 
 ghost use Rattle.std.specs.Prelude.{◌≡◌, ◌∷◌, ◌++◌, [], IfOk, OnOk};
 ghost use Rattle.std.specs.Fmt.{decimal};
-ghost use Rattle.read_path.specs.PathLog.{after_step, answer_to};
+ghost use Rattle.read_path.specs.PathLog.{path_after_step, path_answer_to};
 ghost use Rattle.reads_command.specs.Report.{made_line};
-ghost use Rattle.reads_command.specs.Texts.{answer_text, land_text, link_text, post_text, read_text, refusal_text};
+ghost use Rattle.reads_command.specs.Texts.{reads_answer_text, reads_land_text, link_text, post_text, read_text, refusal_text};
 ghost use Rattle.report_text.specs.Texts.{word_and_numbers};
 ghost use Rattle.reads_command.specs.Steps.{Fits};
 
@@ -18,8 +18,8 @@ use std::alloc::AllocError;
 /// an error if memory runs out.
 pub fn make_step(path: &mut Path, step: &PathStep) -> Result<PathAnswer, AllocError>
     requires { Fits step.now }
-    ensures answer { IfOk result (λ answer. answer ≡ answer_to path.old step.now) }
-    ensures after { OnOk result (path.new ≡ after_step path.old step.now) }
+    ensures answer { IfOk result (λ answer. answer ≡ path_answer_to path.old step.now) }
+    ensures after { OnOk result (path.new ≡ path_after_step path.old step.now) }
 {
     Ok(match step {
         PathStep::Write {
@@ -63,7 +63,7 @@ pub fn push_line(text: &mut Vec<u8>, line: u32, answer: &PathAnswer) -> Result<(
 
 // Adds the text of an answer.
 fn push_answer(text: &mut Vec<u8>, answer: &PathAnswer) -> Result<(), AllocError>
-    ensures { OnOk result (text.new.items ≡ text.old.items ++ answer_text answer.now) }
+    ensures { OnOk result (text.new.items ≡ text.old.items ++ reads_answer_text answer.now) }
 {
     match answer {
         PathAnswer::Wrote { answer } => push_word(text, post_word(*answer)),
@@ -99,7 +99,7 @@ fn push_read(text: &mut Vec<u8>, answer: &ReadAnswer) -> Result<(), AllocError>
 
 // Adds the text of what came of a landing.
 fn push_landing(text: &mut Vec<u8>, answer: &PathLand) -> Result<(), AllocError>
-    ensures { OnOk result (text.new.items ≡ text.old.items ++ land_text answer.now) }
+    ensures { OnOk result (text.new.items ≡ text.old.items ++ reads_land_text answer.now) }
 {
     match answer {
         PathLand::Nothing => push_word(text, "nothing"),

@@ -3,7 +3,7 @@
 
 ghost use Rattle.std.specs.Prelude.{◌≡◌, ◌≢◌, IfOk, IsSome, map};
 ghost use Rattle.step_kinds.specs.Limits.{most_steps};
-ghost use Rattle.script_words.specs.Reads.{Reads};
+ghost use Rattle.script_words.specs.Reads.{WordReads};
 ghost use Rattle.reads_command.specs.Lines as rules;
 ghost use Rattle.reads_command.specs.Steps.{Fits, FitsIfThere};
 
@@ -17,7 +17,7 @@ use step_kinds::limits::{MOST_STEPS, MOST_WRITE_BYTES};
 
 /// Returns the order that a word spells: whether a write is relaxed.
 fn read_order(word: &[u8]) -> Option<bool>
-    ensures { result ≡ rules.order_of word.now }
+    ensures { result ≡ rules.reads_order_of word.now }
 {
     if word == b"relaxed".as_slice() {
         Some(true)
@@ -43,7 +43,7 @@ fn write_step(
     hex: &[u8],
     order: &[u8],
 ) -> Result<PathStep, ReadError>
-    ensures step { Reads result (rules.write_step side.now at.now hex.now order.now) }
+    ensures step { WordReads result (rules.write_step side.now at.now hex.now order.now) }
     ensures fits { IfOk result Fits }
 {
     let side = read_side(side)?;
@@ -64,7 +64,7 @@ fn write_step(
 
 /// `read S AT LEN`
 fn read_step(side: &[u8], at: &[u8], len: &[u8]) -> Result<PathStep, ReadError>
-    ensures step { Reads result (rules.read_step side.now at.now len.now) }
+    ensures step { WordReads result (rules.read_step side.now at.now len.now) }
     ensures fits { IfOk result Fits }
 {
     let side = read_side(side)?;
@@ -78,7 +78,7 @@ fn read_step(side: &[u8], at: &[u8], len: &[u8]) -> Result<PathStep, ReadError>
 
 /// `land S K`
 fn land_step(side: &[u8], place: &[u8]) -> Result<PathStep, ReadError>
-    ensures step { Reads result (rules.land_step side.now place.now) }
+    ensures step { WordReads result (rules.reads_land_step side.now place.now) }
     ensures fits { IfOk result Fits }
 {
     let side = read_side(side)?;
@@ -88,7 +88,7 @@ fn land_step(side: &[u8], place: &[u8]) -> Result<PathStep, ReadError>
 
 /// `show S AT LEN`
 fn show_step(side: &[u8], at: &[u8], len: &[u8]) -> Result<PathStep, ReadError>
-    ensures step { Reads result (rules.show_step side.now at.now len.now) }
+    ensures step { WordReads result (rules.show_step side.now at.now len.now) }
     ensures fits { IfOk result Fits }
 {
     let side = read_side(side)?;
@@ -102,7 +102,7 @@ fn show_step(side: &[u8], at: &[u8], len: &[u8]) -> Result<PathStep, ReadError>
 
 /// Returns a step of the link, which is one word.
 fn link_step(word: &[u8]) -> Result<PathStep, ReadError>
-    ensures step { Reads result (rules.link_step word.now) }
+    ensures step { WordReads result (rules.link_step word.now) }
     ensures fits { IfOk result Fits }
 {
     if word == b"break".as_slice() {
@@ -118,7 +118,7 @@ fn link_step(word: &[u8]) -> Result<PathStep, ReadError>
 
 /// Returns a step with a side, an address and a length.
 fn range_step(word: &[u8], side: &[u8], at: &[u8], len: &[u8]) -> Result<PathStep, ReadError>
-    ensures step { Reads result (rules.range_step word.now side.now at.now len.now) }
+    ensures step { WordReads result (rules.range_step word.now side.now at.now len.now) }
     ensures fits { IfOk result Fits }
 {
     if word == b"read".as_slice() {
@@ -132,7 +132,7 @@ fn range_step(word: &[u8], side: &[u8], at: &[u8], len: &[u8]) -> Result<PathSte
 
 /// Returns a step with a side and a place.
 fn place_step(word: &[u8], side: &[u8], place: &[u8]) -> Result<PathStep, ReadError>
-    ensures step { Reads result (rules.place_step word.now side.now place.now) }
+    ensures step { WordReads result (rules.place_step word.now side.now place.now) }
     ensures fits { IfOk result Fits }
 {
     if word == b"land".as_slice() {
@@ -151,7 +151,7 @@ fn bytes_step(
     hex: &[u8],
     order: &[u8],
 ) -> Result<PathStep, ReadError>
-    ensures step { Reads result (rules.bytes_step word.now side.now at.now hex.now order.now) }
+    ensures step { WordReads result (rules.bytes_step word.now side.now at.now hex.now order.now) }
     ensures fits { IfOk result Fits }
 {
     if word == b"write".as_slice() {
@@ -163,7 +163,7 @@ fn bytes_step(
 
 /// Returns the step of a line's words.
 fn step_of(alloc: Global, words: &[&[u8]]) -> Result<PathStep, ReadError>
-    ensures step { Reads result (rules.step_of (map (λ word. word.now) words.now)) }
+    ensures step { WordReads result (rules.step_of (map (λ word. word.now) words.now)) }
     ensures fits { IfOk result Fits }
 {
     match words {
@@ -178,7 +178,7 @@ fn step_of(alloc: Global, words: &[&[u8]]) -> Result<PathStep, ReadError>
 
 /// Returns whether these are the words of the first line.
 fn is_header(words: &[&[u8]]) -> bool
-    ensures { result ≡ rules.is_header (map (λ word. word.now) words.now) }
+    ensures { result ≡ rules.is_reads_header (map (λ word. word.now) words.now) }
 {
     match words {
         [word, version] => *word == b"reads".as_slice() && *version == b"1".as_slice(),
@@ -188,7 +188,7 @@ fn is_header(words: &[&[u8]]) -> bool
 
 /// Returns the first line.
 fn header_line<'a>(words: &mut Vec<&'a [u8]>, line: &'a [u8]) -> Result<Option<PathStep>, ReadError>
-    ensures step { Reads result (rules.header_line line.now) }
+    ensures step { WordReads result (rules.reads_header_line line.now) }
     ensures none { IfOk result (λ step. step ≡ None) }
 {
     if !read_words(words, line)? {
@@ -218,7 +218,7 @@ pub fn read_line<'a>(
     words: &mut Vec<&'a [u8]>,
     line: &'a [u8],
 ) -> Result<Option<PathStep>, ReadError>
-    ensures step { Reads result (rules.line_gives number steps line.now) }
+    ensures step { WordReads result (rules.reads_line_gives number steps line.now) }
     ensures fits { IfOk result (λ step. FitsIfThere step) }
     ensures few { IfOk result (λ step. IsSome step → steps ≢ most_steps) }
 {

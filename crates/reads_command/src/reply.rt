@@ -3,9 +3,9 @@
 ghost use Rattle.std.specs.Prelude.{◌≡◌, ◌≤◌, ◌++◌, length, OnOk};
 ghost use Rattle.step_kinds.specs.Limits.{most_script_bytes, most_steps};
 ghost use Rattle.script_words.specs.Reads.{result_map};
-ghost use Rattle.reads_command.specs.Lines.{line_gives};
+ghost use Rattle.reads_command.specs.Lines.{reads_line_gives};
 ghost use Rattle.reads_command.specs.Report.{reply_to};
-ghost use Rattle.reads_command.specs.Replies.{Adds, Replies, TextPushed, reply_seen};
+ghost use Rattle.reads_command.specs.Replies.{AddsReadsLine, Replies, TextPushed, reply_seen};
 
 use crate::answers::{make_step, push_line};
 use crate::lines::read_line;
@@ -59,7 +59,7 @@ impl Reply {
     ) -> Result<(), ReadsError>
         requires { self.old.steps ≤ most_steps }
         ensures few { self.new.steps ≤ most_steps }
-        ensures adds { Adds number (reply_seen self.old) (reply_seen self.new) result (line_gives number self.old.steps line.now) }
+        ensures adds { AddsReadsLine number (reply_seen self.old) (reply_seen self.new) result (reads_line_gives number self.old.steps line.now) }
     {
         let step = match read_line(alloc, number, self.steps, words, line) {
             Ok(None) => return Ok(()),

@@ -10,7 +10,7 @@ use Rattle.step_kinds.specs.declared.names.Side.TheVariants.{A, B}
 use Rattle.pair_model.specs.DeclaredPlans.{IsQueueOf}
 use Rattle.traffic_plan.specs.Load.{load_of}
 use Rattle.cluster_core.specs.Cluster.{ClusterState, plan_held}
-use Rattle.cluster_core.specs.LogClauses.{HasMade}
+use Rattle.cluster_core.specs.LogClauses.{HasClusterMade}
 use Rattle.ledger_model.specs.Log.{Answered, accepted, counters_in, delivered, lane_of_device}
 use Rattle.step_kinds.specs.declared.plan.Line.{Line}
 use Rattle.report_text.specs.Report.{answer_line, count_line, count_lines, device_lines, end_line, ending}
@@ -76,7 +76,7 @@ devices_known plan devs same = ap length same ∙ length-map plan.devs (λ dev. 
 
 -- A new cluster of a plan has made no step of a plan that declares the same.
 pub new_replayed : {E : Type 0} (plan kept : Plan) (result : Result ClusterState E) → declared_part plan ≡ declared_part kept →
-    IfOk result (λ cluster. (other : Plan) → declared_part other ≡ declared_part kept → HasMade other [] cluster) → IfOk result (λ cluster. plan_held cluster ≡ declared_part kept) →
+    IfOk result (λ cluster. (other : Plan) → declared_part other ≡ declared_part kept → HasClusterMade other [] cluster) → IfOk result (λ cluster. plan_held cluster ≡ declared_part kept) →
     IfOk result (λ cluster. HasReplayed plan [] cluster)
 new_replayed plan kept (Err error) same made held = tt
 new_replayed plan kept (Ok cluster) same made held = record { made = made plan same; kept = held ∙ sym same }

@@ -2,7 +2,7 @@
 use Rattle.std.proofs.Common.{◌≡◌, ◌∙◌, ℕ, Some, Result, Ok, Err, List, [], ◌∷◌, ◌++◌, refl, sym, subst, arith}
 use Rattle.std.specs.Prelude.{◌&&◌, nat_lt, not}
 use Rattle.std.proofs.lemmas.List.{append_cancel_left}
-use Rattle.command_reply.specs.Output.{Output, done}
+use Rattle.command_reply.specs.Output.{Output, reply_done}
 use Rattle.step_kinds.specs.declared.plan.Plan.{Plan}
 use Rattle.script_text.specs.Script.{script_of}
 use Rattle.script_words.specs.declared.fault.ScriptFault.{ScriptFault}
@@ -65,5 +65,5 @@ replay_is_true bytes output same =
     }
 
 -- An output that is the text of a generated load is what `load` promises: the load's log is true.
-pub load_is_true : (seed frames : ℕ) (output : Output) → output ≡ done (load_text seed frames) → IsLoadOf seed frames output
+pub load_is_true : (seed frames : ℕ) (output : Output) → output ≡ reply_done (load_text seed frames) → IsLoadOf seed frames output
 load_is_true seed frames output same = record { answer = same; headline = true_log (load_of seed frames) }

@@ -1,6 +1,6 @@
 -- What `replay` and `load` answer, and what is true of it.
 use Rattle.std.specs.Prelude.{◌≡◌, ℕ, Result, Ok, Err, List}
-use Rattle.command_reply.specs.Output.{Output, done, refused}
+use Rattle.command_reply.specs.Output.{Output, reply_done, refused}
 use Rattle.command_reply.specs.Statuses.{number_of}
 use Rattle.command_reply.specs.declared.status.Status.TheVariants.{Done}
 use Rattle.step_kinds.specs.declared.plan.Plan.{Plan}
@@ -12,7 +12,7 @@ use Rattle.replay_command.specs.Replays.{load_text, replay_text}
 
 -- the report of the plan that a script declares, or the script's fault
 abbrev pub replayed : Result Plan ScriptFault → Output
-replayed (Ok plan) = done (replay_text plan)
+replayed (Ok plan) = reply_done (replay_text plan)
 replayed (Err fault) = refused fault
 
 -- the answer of `replay` to the bytes of a script
@@ -23,6 +23,6 @@ pub record IsReplayOf (bytes : List ℕ) (output : Output) : Type 0 where
 
 -- the answer of `load` to a seed and a number of frames
 pub record IsLoadOf (seed frames : ℕ) (output : Output) : Type 0 where
-  pub answer : output ≡ done (load_text seed frames)
+  pub answer : output ≡ reply_done (load_text seed frames)
   -- the log of the generated plan is true
   pub headline : IsTrueLog (load_of seed frames)

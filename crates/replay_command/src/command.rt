@@ -1,7 +1,7 @@
 //! The replies of `replay` and `load`.
 
 ghost use Rattle.std.specs.Prelude.{◌≡◌, ◌≤◌, IfOk, length};
-ghost use Rattle.command_reply.specs.Output.{done};
+ghost use Rattle.command_reply.specs.Output.{reply_done};
 ghost use Rattle.pair_model.specs.TrafficPlans.{IsWhole};
 ghost use Rattle.script_plan.specs.Scripts.{plan_in};
 ghost use Rattle.step_kinds.specs.Limits.{most_script_bytes};
@@ -32,7 +32,7 @@ pub fn replay_reply(alloc: Global, bytes: &[u8]) -> Result<Reply, AllocError>
 // Returns the reply to a script without a fault.
 fn report(alloc: Global, script: &Script) -> Result<Reply, AllocError>
     requires { IsWhole (plan_in script.now) }
-    ensures { IfOk result (λ reply. reply ≡ done (text_of_plan (plan_in script.now))) }
+    ensures { IfOk result (λ reply. reply ≡ reply_done (text_of_plan (plan_in script.now))) }
 {
     Ok(Reply::done(replay_text(alloc, script)?))
 }

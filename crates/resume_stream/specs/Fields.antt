@@ -12,7 +12,7 @@ pub record IsPlace (items : List (List ℕ)) (acked start : ℕ) (place : Place)
   pub ever : place.ever ≤ length items
   pub below : acked ≤ place.ever
 
-pub record IsSender (items : List (List ℕ)) (acked start : ℕ) (place : Place) (before : Option Place) : Type 0 where
+pub record IsStreamSender (items : List (List ℕ)) (acked start : ℕ) (place : Place) (before : Option Place) : Type 0 where
   pub few : length items < most_items
   pub below : start ≤ acked
   pub here : IsPlace items acked start place
@@ -24,6 +24,6 @@ IsWithin count Fresh = Unit {0}
 IsWithin count (At number) = number ≤ count
 IsWithin count Spoiled = Unit {0}
 
-pub record IsReceiver (items : List (List ℕ)) (session : Session) : Type 0 where
+pub record IsStreamReceiver (items : List (List ℕ)) (session : Session) : Type 0 where
   pub few : length items < 2 ^ 32
   pub within : IsWithin (length items) session

@@ -103,13 +103,13 @@ impl StreamReceiver {
 
 impl Model for StreamReceiver {
     ghost use Rattle.stream_model.specs.Receiver.{Receiver};
-    ghost use Rattle.resume_stream.specs.Fields.{IsReceiver};
+    ghost use Rattle.resume_stream.specs.Fields.{IsStreamReceiver};
 
     ghost Value = { Receiver };
 
     ghost view = { λ receiver. record { items = receiver.items.frames; session = receiver.session } };
 
-    ghost invariant = { λ receiver. IsReceiver receiver.items.frames receiver.session };
+    ghost invariant = { λ receiver. IsStreamReceiver receiver.items.frames receiver.session };
 }
 
 // Returns what a session's first frame is to a receiver that keeps this many items, and where the receiver stands after

@@ -2,7 +2,7 @@
 
 ghost use Rattle.std.specs.Prelude.{◌≡◌, ◌<◌, length, IfOk, IfSome, OnErr, OnOk, Some, is_some};
 ghost use Rattle.step_kinds.specs.FrameLists.{Frames};
-ghost use Rattle.stream_model.specs.Sender.{ack_answer, ack_taken, after_next_frame, given_back, last_given, most_items, new_sender, next_frame, sender_renewed};
+ghost use Rattle.stream_model.specs.Sender.{ack_answer, ack_taken, after_next_frame, sender_given_back, last_given, most_items, new_sender, next_frame, sender_renewed};
 
 use crate::numbers::{number_frame, number_in};
 use std::alloc::{AllocError, Global};
@@ -76,7 +76,7 @@ impl StreamSender {
     /// frame that [`StreamSender::next_frame`] answered in the sender's last change. It takes no memory.
     pub fn give_back(&mut self, frame: Frame)
         requires { last_given self.old ≡ Some frame }
-        ensures { self.new ≡ given_back self.old }
+        ensures { self.new ≡ sender_given_back self.old }
     {
         if let Some(place) = self.before {
             self.place = place;
@@ -134,11 +134,11 @@ impl StreamSender {
 
 impl Model for StreamSender {
     ghost use Rattle.stream_model.specs.Sender.{Sender};
-    ghost use Rattle.resume_stream.specs.Fields.{IsSender};
+    ghost use Rattle.resume_stream.specs.Fields.{IsStreamSender};
 
     ghost Value = { Sender };
 
     ghost view = { λ sender. record { items = sender.items.frames; acked = sender.acked; start = sender.start; place = sender.place; before = sender.before } };
 
-    ghost invariant = { λ sender. IsSender sender.items.frames sender.acked sender.start sender.place sender.before };
+    ghost invariant = { λ sender. IsStreamSender sender.items.frames sender.acked sender.start sender.place sender.before };
 }

@@ -4,7 +4,7 @@ use Rattle.std.proofs.lemmas.Nat.{mod_below}
 use Rattle.std.proofs.lemmas.Bool.{cases_eq, cases_order}
 use Rattle.ring_geometry.specs.Geometry.{Layout, HasRing, window_of, area, area_start, frame_size, max_payload_of, slot_of, header_of}
 use Rattle.ring_geometry.specs.Laws.{StandApart, IsSameSide}
-use Rattle.ring_geometry.specs.Spots.{Rings, Spot, Payload, Header, Index, layout_at, queue_of, offset_in, bytes_in, IsIn, IsSpot, AreOther, spot_at, spot_bytes}
+use Rattle.ring_geometry.specs.Spots.{Rings, Spot, Payload, Header, Index, layout_at, spot_queue_of, offset_in, spot_bytes_in, IsIn, IsSpot, AreOther, spot_at, spot_bytes}
 use Rattle.ring_geometry.proofs.Areas.{row_ends, area_in_window, areas_apart, slot_in_area}
 
 -- two stretches that share no byte, moved on by as much, or within two such stretches
@@ -36,7 +36,7 @@ slots_apart l i j differ =
     ]
 
 -- a spot lies in the area of its queue
-pub in_area : (l : Layout) → HasRing l → (spot : Spot) → IsIn l spot → (area_start l ≤ offset_in l spot) × (offset_in l spot + bytes_in l spot ≤ area_start l + area l)
+pub in_area : (l : Layout) → HasRing l → (spot : Spot) → IsIn l spot → (area_start l ≤ offset_in l spot) × (offset_in l spot + spot_bytes_in l spot ≤ area_start l + area l)
 in_area l h (Payload queue slot) within =
     let fits = slot_in_area l h slot within in
     let header = header_ends l h slot in
@@ -95,8 +95,8 @@ headers_apart l h i j from len from' len' inside inside' differ =
     within_apart _ _ _ _ _ _ _ _ (slots_apart l i j differ) (omega (arith, one)) (omega (arith, one_ends, inside)) (omega (arith, other)) (omega (arith, other_ends, inside'))
 
 -- two spots of one ring
-in_one_ring : (l : Layout) → HasRing l → (one other : Spot) → IsIn l one → IsIn l other → queue_of one ≡ queue_of other → AreOther one other
-    → StandApart (offset_in l one) (bytes_in l one) (offset_in l other) (bytes_in l other)
+in_one_ring : (l : Layout) → HasRing l → (one other : Spot) → IsIn l one → IsIn l other → spot_queue_of one ≡ spot_queue_of other → AreOther one other
+    → StandApart (offset_in l one) (spot_bytes_in l one) (offset_in l other) (spot_bytes_in l other)
 in_one_ring l h (Payload q i) (Payload q' j) a b same differ =
     let slots = slots_apart l i j (⊎_elim (λ queues. absurd (queues same)) (λ places. places) differ) in
     let one = header_after l h i in
@@ -136,29 +136,29 @@ in_one_ring l h (Index q) (Index q') a b same differ = absurd (differ same)
 pub spots_apart : (rings : Rings) → rings.size ≤ rings.cap → (one other : Spot) → IsSpot rings one → IsSpot rings other → AreOther one other
     → StandApart (spot_at rings one) (spot_bytes rings one) (spot_at rings other) (spot_bytes rings other)
 spots_apart rings fits one other (h, a) (h', b) differ =
-    ⊎_elim (λ same. one_queue same) (λ queues. two_queues queues) (cases_eq (queue_of one) (queue_of other))
+    ⊎_elim (λ same. one_queue same) (λ queues. two_queues queues) (cases_eq (spot_queue_of one) (spot_queue_of other))
   where
-    one_queue : queue_of one ≡ queue_of other → StandApart (spot_at rings one) (spot_bytes rings one) (spot_at rings other) (spot_bytes rings other)
+    one_queue : spot_queue_of one ≡ spot_queue_of other → StandApart (spot_at rings one) (spot_bytes rings one) (spot_at rings other) (spot_bytes rings other)
     one_queue same =
         let P : ℕ → Type 0 = λ q. IsIn (layout_at rings q) other in
-        let Q : ℕ → Type 0 = λ q. StandApart (spot_at rings one) (spot_bytes rings one) (rings.cap * window_of (layout_at rings q) + offset_in (layout_at rings q) other) (bytes_in (layout_at rings q) other) in
-        subst Q same (moved _ _ _ _ _ (in_one_ring (layout_at rings (queue_of one)) h one other a (subst P (sym same) b) same differ))
+        let Q : ℕ → Type 0 = λ q. StandApart (spot_at rings one) (spot_bytes rings one) (rings.cap * window_of (layout_at rings q) + offset_in (layout_at rings q) other) (spot_bytes_in (layout_at rings q) other) in
+        subst Q same (moved _ _ _ _ _ (in_one_ring (layout_at rings (spot_queue_of one)) h one other a (subst P (sym same) b) same differ))
 
-    two_queues : queue_of one ≢ queue_of other → StandApart (spot_at rings one) (spot_bytes rings one) (spot_at rings other) (spot_bytes rings other)
+    two_queues : spot_queue_of one ≢ spot_queue_of other → StandApart (spot_at rings one) (spot_bytes rings one) (spot_at rings other) (spot_bytes rings other)
     two_queues queues =
-        let areas = areas_in_memory rings fits (queue_of one) (queue_of other) h h' queues in
-        let first = in_area (layout_at rings (queue_of one)) h one a in
-        let second = in_area (layout_at rings (queue_of other)) h' other b in
+        let areas = areas_in_memory rings fits (spot_queue_of one) (spot_queue_of other) h h' queues in
+        let first = in_area (layout_at rings (spot_queue_of one)) h one a in
+        let second = in_area (layout_at rings (spot_queue_of other)) h' other b in
         within_apart _ _ _ _ _ _ _ _ areas (omega (arith, first.0)) (omega (arith, first.1)) (omega (arith, second.0)) (omega (arith, second.1))
 
 -- A spot lies within its window as the peer has it, and within the memory if the peer's windows fit the memory's.
 pub spot_inside : (rings : Rings) → (spot : Spot) → IsSpot rings spot
-    → (offset_in (layout_at rings (queue_of spot)) spot + spot_bytes rings spot ≤ rings.size)
+    → (offset_in (layout_at rings (spot_queue_of spot)) spot + spot_bytes rings spot ≤ rings.size)
     × (rings.size ≤ rings.cap → spot_at rings spot + spot_bytes rings spot ≤ rings.cap * rings.windows)
 spot_inside rings spot (h, a) =
-    let l : Layout = layout_at rings (queue_of spot) in
+    let l : Layout = layout_at rings (spot_queue_of spot) in
     let inside = (in_area l h spot a).1 in
     let window = area_in_window l h in
-    let in_window : offset_in l spot + bytes_in l spot ≤ rings.size = omega (arith, inside, window) in
-    let below = mod_below (queue_of spot) rings.windows h.some_window in
+    let in_window : offset_in l spot + spot_bytes_in l spot ≤ rings.size = omega (arith, inside, window) in
+    let below = mod_below (spot_queue_of spot) rings.windows h.some_window in
     (in_window, λ fits. let ends = row_ends rings.cap (window_of l) rings.windows below in omega (arith, in_window, ends, fits))

@@ -5,16 +5,16 @@ use Rattle.ring_geometry.specs.Geometry.{Layout, layout_with, IsPlaced, area, ar
 use Rattle.ring_geometry.specs.declared.Geometry.TheInside.{Inside}
 
 -- the layout whose places the numbers say
-abbrev pub layout_of : Inside → Layout
-layout_of g = layout_with g.window g.windows g.queues g.queue g.mtu g.header
+abbrev pub geometry_layout_of : Inside → Layout
+geometry_layout_of g = layout_with g.window g.windows g.queues g.queue g.mtu g.header
 
 -- the layout is one that a `Geometry` places, and the kept places are the layout's
 pub record IsKept (g : Inside) : Type 0 where
-  pub placed : IsPlaced (layout_of g)
-  pub area_is : g.area_bytes ≡ area (layout_of g)
-  pub begin_is : g.area_begin ≡ area_start (layout_of g)
-  pub frame_is : g.frame_bytes ≡ frame_size (layout_of g)
-  pub entries_are : g.entries ≡ entries_of (layout_of g)
+  pub placed : IsPlaced (geometry_layout_of g)
+  pub area_is : g.area_bytes ≡ area (geometry_layout_of g)
+  pub begin_is : g.area_begin ≡ area_start (geometry_layout_of g)
+  pub frame_is : g.frame_bytes ≡ frame_size (geometry_layout_of g)
+  pub entries_are : g.entries ≡ entries_of (geometry_layout_of g)
 
 -- the kept numbers, from the layout
 abbrev pub inside_of : Layout → Inside
@@ -35,7 +35,7 @@ four_the_same : {X : Type 0} (f : ℕ → ℕ → ℕ → ℕ → X) {a b c d a'
 four_the_same f p q r s = cc
 
 -- they are the same where they are kept
-pub inside_of-layout_of : (g : Inside) → IsKept g → inside_of (layout_of g) ≡ g
+pub inside_of-layout_of : (g : Inside) → IsKept g → inside_of (geometry_layout_of g) ≡ g
 inside_of-layout_of g h =
     four_the_same
     (λ a b c d. record g { area_bytes = a; area_begin = b; frame_bytes = c; entries = d })

@@ -29,10 +29,10 @@ pub data Spot : Type 0 where
   Header : ℕ → ℕ → ℕ → ℕ → Spot
   Index : ℕ → Spot
 
-abbrev pub queue_of : Spot → ℕ
-queue_of (Payload queue slot) = queue
-queue_of (Header queue slot from len) = queue
-queue_of (Index queue) = queue
+abbrev pub spot_queue_of : Spot → ℕ
+spot_queue_of (Payload queue slot) = queue
+spot_queue_of (Header queue slot from len) = queue
+spot_queue_of (Index queue) = queue
 
 -- where a spot begins in its window
 abbrev pub offset_in : Layout → Spot → ℕ
@@ -41,10 +41,10 @@ offset_in l (Header queue slot from len) = header_of l slot + from
 offset_in l (Index queue) = index_of l
 
 -- how many bytes it has
-abbrev pub bytes_in : Layout → Spot → ℕ
-bytes_in l (Payload queue slot) = max_payload_of l
-bytes_in l (Header queue slot from len) = len
-bytes_in l (Index queue) = 4
+abbrev pub spot_bytes_in : Layout → Spot → ℕ
+spot_bytes_in l (Payload queue slot) = max_payload_of l
+spot_bytes_in l (Header queue slot from len) = len
+spot_bytes_in l (Index queue) = 4
 
 -- the slot is one of the ring's, and a header's bytes are in the header
 abbrev pub IsIn : Layout → Spot → Type 0
@@ -54,13 +54,13 @@ IsIn l (Index queue) = Unit {0}
 
 -- the spot is one of these rings'
 abbrev pub IsSpot : Rings → Spot → Type 0
-IsSpot rings spot = HasRing (layout_at rings (queue_of spot)) × IsIn (layout_at rings (queue_of spot)) spot
+IsSpot rings spot = HasRing (layout_at rings (spot_queue_of spot)) × IsIn (layout_at rings (spot_queue_of spot)) spot
 
 abbrev pub spot_at : Rings → Spot → ℕ
-spot_at rings spot = address_of rings (queue_of spot) (offset_in (layout_at rings (queue_of spot)) spot)
+spot_at rings spot = address_of rings (spot_queue_of spot) (offset_in (layout_at rings (spot_queue_of spot)) spot)
 
 abbrev pub spot_bytes : Rings → Spot → ℕ
-spot_bytes rings spot = bytes_in (layout_at rings (queue_of spot)) spot
+spot_bytes rings spot = spot_bytes_in (layout_at rings (spot_queue_of spot)) spot
 
 -- two spots, neither part of the other: of two queues, of two slots, a payload and a header, two fields of a header, or
 -- one of them an index word
@@ -84,5 +84,5 @@ SpotsStandApart = (rings : Rings) → rings.size ≤ rings.cap → (one other : 
 -- memory gives
 abbrev pub SpotsLieInside : Type 0
 SpotsLieInside = (rings : Rings) → (spot : Spot) → IsSpot rings spot
-    → (offset_in (layout_at rings (queue_of spot)) spot + spot_bytes rings spot ≤ rings.size)
+    → (offset_in (layout_at rings (spot_queue_of spot)) spot + spot_bytes rings spot ≤ rings.size)
     × (rings.size ≤ rings.cap → spot_at rings spot + spot_bytes rings spot ≤ rings.cap * rings.windows)

@@ -204,9 +204,9 @@ impl Model for Geometry {
 
     ghost Value = { Layout };
 
-    ghost use Rattle.ring_geometry.specs.GeometryFields.{inside_of, inside_of-layout_of, layout_of, IsKept};
+    ghost use Rattle.ring_geometry.specs.GeometryFields.{inside_of, inside_of-layout_of, geometry_layout_of, IsKept};
 
-    ghost view = { layout_of };
+    ghost view = { geometry_layout_of };
 
     ghost invariant = { IsKept };
 

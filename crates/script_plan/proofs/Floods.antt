@@ -8,7 +8,7 @@ use Rattle.step_kinds.specs.declared.plan.Traffic.{Traffic}
 use Rattle.step_kinds.specs.declared.plan.Traffic.TheVariants.{Send}
 use Rattle.lane_model.specs.Lane.{count_from}
 use Rattle.script_words.specs.Compact.{flood_of}
-use Rattle.pair_model.specs.TrafficPlans.{frames_in, bytes_in}
+use Rattle.pair_model.specs.TrafficPlans.{frames_in, traffic_bytes_in}
 use Rattle.script_words.specs.TrafficLines.{flood_frame}
 
 -- The n+1 consecutive numbers from a start are the first n and then the start plus n.
@@ -57,8 +57,8 @@ pub flood_frames : (lane : LaneName) (count len : ℕ) → sum (map frames_in (f
 flood_frames lane count len = sum-same frames_in (λ i. Send lane (flood_frame len i)) 1 (λ i. refl) 0 count ∙ omega arith
 
 -- The bytes of a flood's frames are its count times its length.
-pub flood_bytes : (lane : LaneName) (count len : ℕ) → sum (map bytes_in (flood_of lane count len)) ≡ count * len
-flood_bytes lane count len = sum-same bytes_in (λ i. Send lane (flood_frame len i)) len (length_flood_frame len) 0 count
+pub flood_bytes : (lane : LaneName) (count len : ℕ) → sum (map traffic_bytes_in (flood_of lane count len)) ≡ count * len
+flood_bytes lane count len = sum-same traffic_bytes_in (λ i. Send lane (flood_frame len i)) len (length_flood_frame len) 0 count
 
 -- the traffic with a part of a flood has room for one frame more of it
 pub frames_stay : (old more : List Traffic) (lane : LaneName) (i count len most : ℕ) → i < count → sum (map frames_in old) + count ≤ most → more ≡ old ++ flood_of lane i len
@@ -69,10 +69,10 @@ frames_stay old more lane i count len most h room e =
     rw e (omega arith)
 
 -- If a whole flood fits the limit of bytes, the traffic with a part of it has room for one frame more of it.
-pub bytes_stay : (old more : List Traffic) (lane : LaneName) (i count len most size : ℕ) → i < count → sum (map bytes_in old) + count * len ≤ most → more ≡ old ++ flood_of lane i len → size ≡ len
-    → sum (map bytes_in more) + size ≤ most
+pub bytes_stay : (old more : List Traffic) (lane : LaneName) (i count len most size : ℕ) → i < count → sum (map traffic_bytes_in old) + count * len ≤ most → more ≡ old ++ flood_of lane i len → size ≡ len
+    → sum (map traffic_bytes_in more) + size ≤ most
 bytes_stay old more lane i count len most size h room e same =
-    let parts = sum-map-append bytes_in old (flood_of lane i len) in
+    let parts = sum-map-append traffic_bytes_in old (flood_of lane i len) in
     let part = flood_bytes lane i len in
     let next : suc i * len ≤ count * len = mul-le-mul_right {m = suc i} {n = count} len (omega arith) in
     let step = suc-mul i len in

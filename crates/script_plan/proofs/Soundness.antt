@@ -21,7 +21,7 @@ use Rattle.step_list.specs.Compact.{lines_with}
 use Rattle.script_words.specs.declared.parts.PairHosts.{PairHosts}
 use Rattle.script_words.specs.declared.parts.Part.{Part}
 use Rattle.script_words.specs.declared.parts.QueueName.{QueueName}
-use Rattle.script_plan.specs.Sound.{IsSound, IsKept}
+use Rattle.script_plan.specs.Sound.{IsSound, IsScriptKept}
 use Rattle.script_plan.proofs.Classes.{length-set_pairs}
 
 -- A device stays one where the queues do.
@@ -177,8 +177,8 @@ class_added before more classed pair side queue class sound lt small e =
     subst (λ pairs. IsSound (record before { plan = record before.plan { pairs = pairs }; classed = classed })) (sym e) all
 
 -- more steps, counted
-pub steps_added : (before : Before) (more : List Line) (line count : ℕ) (steps : List Step) (n : ℕ) → IsKept count before → n ≡ length steps
-    → length before.plan.steps + length steps ≤ most_steps → more ≡ before.plan.steps ++ lines_with line steps → IsKept (count + n) (record before { plan = record before.plan { steps = more } })
+pub steps_added : (before : Before) (more : List Line) (line count : ℕ) (steps : List Step) (n : ℕ) → IsScriptKept count before → n ≡ length steps
+    → length before.plan.steps + length steps ≤ most_steps → more ≡ before.plan.steps ++ lines_with line steps → IsScriptKept (count + n) (record before { plan = record before.plan { steps = more } })
 steps_added before more line count steps n kept own few e =
     let plan : Plan = record before.plan { steps = more } in
     let sound = kept.sound in
@@ -198,7 +198,7 @@ steps_added before more line count steps n kept own few e =
     }
 
 -- the lines so far are kept where their part, their hosts or their traffic are others
-pub kept_beside : (before : Before) (count : ℕ) (part : Part) (hosts : List (List ℕ)) (traffic : List Traffic) → IsKept count before → IsKept count (record before { part = part; hosts = hosts; plan = record before.plan { traffic = traffic } })
+pub kept_beside : (before : Before) (count : ℕ) (part : Part) (hosts : List (List ℕ)) (traffic : List Traffic) → IsScriptKept count before → IsScriptKept count (record before { part = part; hosts = hosts; plan = record before.plan { traffic = traffic } })
 kept_beside before count part hosts traffic kept =
     let plan : Plan = record before.plan { traffic = traffic } in
     let sound = kept.sound in

@@ -4,7 +4,7 @@ use Rattle.std.specs.List.{All}
 use Rattle.step_kinds.specs.Limits.{most_hosts, most_pairs, most_devices, most_switches, most_steps, most_frame_bytes, most_traffic_frames, most_traffic_bytes, most_breaks, IsClass}
 use Rattle.pair_model.specs.DeclaredPlans.{IsPair, IsDevice, IsQueueOf}
 use Rattle.pair_model.specs.Switches.{IsSwitch}
-use Rattle.pair_model.specs.TrafficPlans.{frames_in, bytes_in, is_break_of}
+use Rattle.pair_model.specs.TrafficPlans.{frames_in, traffic_bytes_in, is_break_of}
 use Rattle.script_words.specs.Before.{Before, has_name, pair_names, dev_names, switch_names}
 use Rattle.script_words.specs.declared.line_gives.Given.{Given}
 use Rattle.script_words.specs.declared.line_gives.Given.TheVariants.{Nothing, Host, Pair, Device, Class, Switch, StepsBegin, TrafficBegins, Frame, Flood, Break}
@@ -20,7 +20,7 @@ pub record IsSound (before : Before) : Type 0 where
   pub few_steps : length before.plan.steps ≤ most_steps
 
 -- the lines so far are sound, and their steps are counted
-pub record IsKept (step_count : ℕ) (before : Before) : Type 0 where
+pub record IsScriptKept (step_count : ℕ) (before : Before) : Type 0 where
   pub sound : IsSound before
   pub counted : step_count ≡ length before.plan.steps
 
@@ -36,9 +36,9 @@ Suits before (Switch switch) = (has_name (switch_names before) switch.name ≡ f
 Suits before StepsBegin = Unit {0}
 Suits before TrafficBegins = Unit {0}
 Suits before (Frame lane frame) =
-    (sum (map frames_in before.plan.traffic) + 1 ≤ most_traffic_frames) × (sum (map bytes_in before.plan.traffic) + length frame ≤ most_traffic_bytes)
+    (sum (map frames_in before.plan.traffic) + 1 ≤ most_traffic_frames) × (sum (map traffic_bytes_in before.plan.traffic) + length frame ≤ most_traffic_bytes)
 Suits before (Flood lane count len) =
     (0 < count → len ≤ most_frame_bytes)
     × (sum (map frames_in before.plan.traffic) + count ≤ most_traffic_frames)
-    × (sum (map bytes_in before.plan.traffic) + count * len ≤ most_traffic_bytes)
+    × (sum (map traffic_bytes_in before.plan.traffic) + count * len ≤ most_traffic_bytes)
 Suits before (Break pair) = (pair < 16) × (count_by (is_break_of pair) before.plan.traffic < most_breaks)

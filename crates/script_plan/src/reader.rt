@@ -39,7 +39,7 @@ impl Reader {
     ghost use Rattle.pair_model.specs.Switches.{IsSwitch};
     ghost use Rattle.script_words.specs.Ports.{host_of, is_port};
     ghost use Rattle.script_words.specs.Compact.{given_of};
-    ghost use Rattle.step_list.specs.Compact.{steps_of};
+    ghost use Rattle.step_list.specs.Compact.{line_steps_of};
     ghost use Rattle.script_plan.specs.Sound.{Suits};
     ghost use Rattle.script_plan.specs.Scripts.{plan_in};
 
@@ -223,8 +223,8 @@ impl Reader {
     /// then nothing is added.
     #[inline(always)]
     pub fn add_steps(&mut self, line: u32, more: Macro) -> Result<(), AllocError>
-        requires { length self.old.plan.steps + length (steps_of more) ≤ most_steps }
-        ensures ok { OnOk result (self.new ≡ with_given line self.old (MoreSteps (steps_of more))) }
+        requires { length self.old.plan.steps + length (line_steps_of more) ≤ most_steps }
+        ensures ok { OnOk result (self.new ≡ with_given line self.old (MoreSteps (line_steps_of more))) }
         ensures err { OnErr result (self.new ≡ self.old) }
     {
         let count = more.count();
@@ -291,14 +291,14 @@ impl Reader {
 
 impl Model for Reader {
     ghost use Rattle.script_words.specs.Before.{Before};
-    ghost use Rattle.script_plan.specs.Sound.{IsKept};
+    ghost use Rattle.script_plan.specs.Sound.{IsScriptKept};
     ghost use Rattle.script_plan.specs.LinesSoFar.{before_with};
 
     ghost Value = { Before };
 
     ghost view = { λ all. before_with all.part all.hosts all.pairs all.devs all.switches all.steps all.traffic all.pair_hosts.items all.classed.items };
 
-    ghost invariant = { λ all. IsKept all.step_count (before_with all.part all.hosts all.pairs all.devs all.switches all.steps all.traffic all.pair_hosts.items all.classed.items) };
+    ghost invariant = { λ all. IsScriptKept all.step_count (before_with all.part all.hosts all.pairs all.devs all.switches all.steps all.traffic all.pair_hosts.items all.classed.items) };
 }
 
 /// Returns whether this is the same queue.

@@ -4,7 +4,7 @@ ghost use Rattle.std.specs.Prelude.{◌≡◌, ◌∷◌, [], ◌++◌, ◌+◌,
 ghost use Rattle.step_kinds.specs.Limits.{most_frame_bytes, most_traffic_frames, most_traffic_bytes, most_breaks};
 ghost use Rattle.step_kinds.specs.declared.plan.Traffic.TheVariants.{Send, Break};
 ghost use Rattle.script_words.specs.Compact.{flood_of};
-ghost use Rattle.pair_model.specs.TrafficPlans.{frames_in, bytes_in, is_break_of};
+ghost use Rattle.pair_model.specs.TrafficPlans.{frames_in, traffic_bytes_in, is_break_of};
 ghost use Rattle.script_words.specs.TrafficLines.{flood_frame};
 
 use std::alloc::{AllocError, Global};
@@ -36,7 +36,7 @@ impl TrafficList {
 
     /// Returns whether the traffic stays within the limits with this many more frames of this many bytes in all.
     pub fn has_room(&self, frames: u64, bytes: u64) -> bool
-        ensures { result ≡ (nat_le (sum (map frames_in self.now) + frames) most_traffic_frames && nat_le (sum (map bytes_in self.now) + bytes) most_traffic_bytes) }
+        ensures { result ≡ (nat_le (sum (map frames_in self.now) + frames) most_traffic_frames && nat_le (sum (map traffic_bytes_in self.now) + bytes) most_traffic_bytes) }
     {
         frames <= MOST_TRAFFIC_FRAMES as u64 - self.frames
             && bytes <= MOST_TRAFFIC_BYTES - self.bytes
@@ -55,7 +55,7 @@ impl TrafficList {
     /// out, and then nothing is added.
     pub fn push_frame(&mut self, lane: LaneName, frame: Frame) -> Result<(), AllocError>
         requires frames { sum (map frames_in self.old) + 1 ≤ most_traffic_frames }
-        requires bytes { sum (map bytes_in self.old) + length frame ≤ most_traffic_bytes }
+        requires bytes { sum (map traffic_bytes_in self.old) + length frame ≤ most_traffic_bytes }
         ensures after { OnOk result (self.new ≡ self.old ++ Send lane frame ∷ []) }
         ensures err { OnErr result (self.new ≡ self.old) }
     {
@@ -90,7 +90,7 @@ impl TrafficList {
     ) -> Result<(), AllocError>
         requires len { 0 < count → len ≤ most_frame_bytes }
         requires frames { sum (map frames_in self.old) + count ≤ most_traffic_frames }
-        requires bytes { sum (map bytes_in self.old) + count * len ≤ most_traffic_bytes }
+        requires bytes { sum (map traffic_bytes_in self.old) + count * len ≤ most_traffic_bytes }
         ensures { OnOk result (self.new ≡ self.old ++ flood_of lane count len) }
     {
         for i in 0..count {

@@ -11,7 +11,7 @@ use Rattle.step_kinds.specs.declared.steps.Step.{Step}
 use Rattle.pair_model.specs.DeclaredPlans.{IsPair, IsDevice, IsQueueOf}
 use Rattle.pair_model.specs.Plans.{ports_in}
 use Rattle.pair_model.specs.Switches.{IsMakeable, IsSwitch}
-use Rattle.pair_model.specs.TrafficPlans.{frames_in, bytes_in, is_break_of, IsTraffic}
+use Rattle.pair_model.specs.TrafficPlans.{frames_in, traffic_bytes_in, is_break_of, IsTraffic}
 use Rattle.script_words.specs.Before.{Before, Given, Nothing, Host, APair, ADevice, AClass, ASwitch, StepsBegin, TrafficBegins, MoreSteps, MoreTraffic, has_name, pair_names, dev_names, switch_names}
 use Rattle.script_words.specs.Declarations.{sits_on}
 use Rattle.script_words.specs.declared.parts.Part.TheVariants.{Declarations}
@@ -60,7 +60,7 @@ pub record AddsTraffic (before : Before) (traffic : List Traffic) : Type 0 where
   pub part : before.part ≡ Declarations → ⊥
   pub items : All (IsTraffic before.plan) traffic
   pub few_frames : sum (map frames_in before.plan.traffic) + sum (map frames_in traffic) ≤ most_traffic_frames
-  pub few_bytes : sum (map bytes_in before.plan.traffic) + sum (map bytes_in traffic) ≤ most_traffic_bytes
+  pub few_bytes : sum (map traffic_bytes_in before.plan.traffic) + sum (map traffic_bytes_in traffic) ≤ most_traffic_bytes
   pub few_breaks : (pair : ℕ) → count_by (is_break_of pair) before.plan.traffic + count_by (is_break_of pair) traffic ≤ most_breaks
 
 abbrev pub Fits : Before → Given → Type 0

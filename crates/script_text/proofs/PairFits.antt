@@ -9,7 +9,7 @@ use Rattle.step_kinds.specs.declared.names.Side.{Side}
 use Rattle.step_kinds.specs.declared.names.Side.TheVariants.{A, B}
 use Rattle.step_kinds.specs.declared.plan.PairPlan.{PairPlan}
 use Rattle.pair_model.specs.DeclaredPlans.{IsSide, IsPair, Agree, SizesFit}
-use Rattle.pair_settings.specs.Settings.{same_key, same_scope, is_within, is_stepped, mtu_range, key_range, in_range, number_at, side_number, default_version, default_queues, default_windows, default_size, size_of, side_with, mtu_in, sizes_fit, agrees, has_room_for_header, goes_together, pair_with}
+use Rattle.pair_settings.specs.Settings.{same_key, same_scope, is_within, is_stepped, mtu_range, key_range, in_range, setting_number_at, side_number, default_version, default_queues, default_windows, default_size, size_of, side_with, mtu_in, sizes_fit, agrees, has_room_for_header, goes_together, pair_with}
 use Rattle.pair_settings.specs.declared.settings.Range.{Range}
 use Rattle.pair_settings.specs.declared.settings.SideKey.{SideKey}
 use Rattle.pair_settings.specs.declared.settings.SideKey.TheVariants.{Size, Cap, Windows, Queues, Version}
@@ -49,7 +49,7 @@ in_range_scope : (key : SideKey) (one other : Option Side) (n : ℕ) → in_rang
 in_range_scope key one other n = refl
 
 here_or_later : (key other : SideKey) (side scope : Option Side) (m : ℕ) (settings : List Setting) (n : ℕ) (t : Bool) → (same_key key other && same_scope side scope) ≡ t → in_range (OfSide other scope m) ≡ true
-    → (number_at key side settings ≡ Some n → in_range (OfSide key None n) ≡ true) → cond t (Some m) (number_at key side settings) ≡ Some n → in_range (OfSide key None n) ≡ true
+    → (setting_number_at key side settings ≡ Some n → in_range (OfSide key None n) ≡ true) → cond t (Some m) (setting_number_at key side settings) ≡ Some n → in_range (OfSide key None n) ≡ true
 here_or_later key other side scope m settings n true is here later e =
     let same : key ≡ other = same_key_is key other (and_parts (same_key key other) (same_scope side scope) is).0 in
     let number : m ≡ n = cc in
@@ -57,7 +57,7 @@ here_or_later key other side scope m settings n true is here later e =
 here_or_later key other side scope m settings n false is here later e = later e
 
 -- the number of an option in its range
-number_in_range : (key : SideKey) (side : Option Side) (settings : List Setting) (n : ℕ) → list_all in_range settings ≡ true → number_at key side settings ≡ Some n
+number_in_range : (key : SideKey) (side : Option Side) (settings : List Setting) (n : ℕ) → list_all in_range settings ≡ true → setting_number_at key side settings ≡ Some n
     → in_range (OfSide key None n) ≡ true
 number_in_range key side [] n all h = cc
 number_in_range key side (Up ∷ settings) n all h = number_in_range key side settings n all h
@@ -71,9 +71,9 @@ number_in_range key side (OfSide other scope m ∷ settings) n all h =
 -- a side's number is in its range where the default is
 side_in_range : (settings : List Setting) (key : SideKey) (side : Side) (default : ℕ) → list_all in_range settings ≡ true → in_range (OfSide key None default) ≡ true
     → in_range (OfSide key None (side_number settings key side default)) ≡ true
-side_in_range settings key side default all h = by (number_at key (Some side) settings) refl (number_at key None settings) refl
+side_in_range settings key side default all h = by (setting_number_at key (Some side) settings) refl (setting_number_at key None settings) refl
   where
-    by : (own : Option ℕ) → number_at key (Some side) settings ≡ own → (plain : Option ℕ) → number_at key None settings ≡ plain
+    by : (own : Option ℕ) → setting_number_at key (Some side) settings ≡ own → (plain : Option ℕ) → setting_number_at key None settings ≡ plain
         → in_range (OfSide key None (unwrap_or (option_or own plain) default)) ≡ true
     by (Some n) is plain e = number_in_range key (Some side) settings n all is
     by None is (Some n) e = number_in_range key None settings n all e

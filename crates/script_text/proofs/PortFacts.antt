@@ -9,7 +9,7 @@ use Rattle.std.specs.List.{All, AllPairs, Contains, list_any}
 use Rattle.step_kinds.specs.declared.plan.SwitchPlan.{SwitchPlan}
 use Rattle.pair_model.specs.Plans.{ports_in}
 use Rattle.script_words.specs.Before.{Before}
-use Rattle.script_words.specs.Ports.{is_among, is_port, port_place, with_port, ports_from}
+use Rattle.script_words.specs.Ports.{is_among, is_port, port_place, script_with_port, ports_from}
 use Rattle.script_words.specs.Tests.{fault_at}
 use Rattle.script_words.specs.declared.fault.Cause.TheVariants.{Repeated}
 use Rattle.script_text.proofs.Fits.{AddsPorts}
@@ -48,7 +48,7 @@ port_is_there (switch ∷ switches) dev e = elim (or_cases (is_among switch.port
 
 -- The ports that words name
 
-one_more : (before : Before) (devs : List ℕ) (word : List ℕ) → AddsPorts before devs → Gives (λ more. AddsPorts before more × (length more ≡ length devs + 1)) (with_port before devs word)
+one_more : (before : Before) (devs : List ℕ) (word : List ℕ) → AddsPorts before devs → Gives (λ more. AddsPorts before more × (length more ≡ length devs + 1)) (script_with_port before devs word)
 one_more before devs word adds =
     let apart : ℕ → ℕ → Type 0 = λ one other. one ≡ other → ⊥ in
     let ports = ports_in before.plan.switches in
@@ -80,7 +80,7 @@ no_ports before apart = record { declared = All-nil (λ d. d < length before.pla
 
 -- each of them is a declared device, whatever ports there are
 one_declared : (before : Before) (devs : List ℕ) (word : List ℕ) → All (λ dev. dev < length before.plan.devs) devs
-    → Gives (λ more. All (λ dev. dev < length before.plan.devs) more) (with_port before devs word)
+    → Gives (λ more. All (λ dev. dev < length before.plan.devs) more) (script_with_port before devs word)
 one_declared before devs word all =
     gives_then _ _ _ (gives_at _ (port_place devs) _ (dev_declared before word)) (λ dev lt.
     gives_then _ _ _ (gives_passed (is_port before dev || is_among devs dev) (fault_at (port_place devs) Repeated)) (λ _ _.

@@ -123,7 +123,7 @@ module _ (before : Before) (part : before.part ≡ Declarations → ⊥) (device
 
   frame_line_fits : (steps : PairPlan → ℕ → Side → ℕ → List ℕ → List Step)
       → ((pair : ℕ) (side : Side) (queue : ℕ) (frame : List ℕ) → IsQueueOf before.plan pair side queue → IsFrame frame → All (IsPermitted before.plan) (steps (pair_plan before.plan pair) pair side queue frame))
-      → (pair_text side_text queue_text frame_text : List ℕ) → 0 < length frame_text → Gives (Fits before) (rules.frame_line before steps pair_text side_text queue_text frame_text)
+      → (pair_text side_text queue_text frame_text : List ℕ) → 0 < length frame_text → Gives (Fits before) (rules.script_frame_line before steps pair_text side_text queue_text frame_text)
   frame_line_fits steps ok pair_text side_text queue_text frame_text some =
       gives_then _ _ _ (queue_declared before 2 pair_text side_text queue_text) (λ name queue.
       gives_then _ _ _ (gives_at _ 5 _ (bytes_spelled frame_text some)) (λ frame filled.

@@ -16,11 +16,11 @@ use Rattle.lane_model.specs.Lane.{count_from}
 use Rattle.pair_model.specs.DeclaredPlans.{Agree}
 use Rattle.pair_model.specs.Plans.{side_plan, pair_plan}
 use Rattle.pair_model.specs.Sizes.{sizes_of}
-use Rattle.pair_model.specs.TrafficPlans.{frames_in, bytes_in, is_break_of, MayHaveTraffic, IsTrafficLane, IsTraffic}
+use Rattle.pair_model.specs.TrafficPlans.{frames_in, traffic_bytes_in, is_break_of, MayHaveTraffic, IsTrafficLane, IsTraffic}
 use Rattle.pair_settings.specs.Settings.{agrees}
 use Rattle.script_words.specs.Before.{Before, MoreTraffic}
 use Rattle.script_words.specs.Tests.{unknown_line, whole}
-use Rattle.script_words.specs.TrafficLines.{may_have_traffic, is_little, traffic_within, lane_of, traffic_frame_line, flood_frame, flood_line, break_line, traffic_line}
+use Rattle.script_words.specs.TrafficLines.{may_have_traffic, is_little, traffic_within, script_lane_of, traffic_frame_line, flood_frame, flood_line, break_line, traffic_line}
 use Rattle.script_words.specs.declared.fault.Cause.TheVariants.{BadGeometry, BadPair, TooMany}
 use Rattle.script_words.specs.declared.parts.Part.TheVariants.{Declarations}
 use Rattle.script_plan.proofs.Facade.{length_flood_frame}
@@ -66,7 +66,7 @@ break_within items pair other room few = by (pair == other) refl
         omega arith
 
 module _ (before : Before) (part : before.part ≡ Declarations → ⊥) (few : (pair : ℕ) → count_by (is_break_of pair) before.plan.traffic ≤ most_breaks)
-    (few_frames : sum (map frames_in before.plan.traffic) ≤ most_traffic_frames) (few_bytes : sum (map bytes_in before.plan.traffic) ≤ most_traffic_bytes) where
+    (few_frames : sum (map frames_in before.plan.traffic) ≤ most_traffic_frames) (few_bytes : sum (map traffic_bytes_in before.plan.traffic) ≤ most_traffic_bytes) where
   within_fits : (lane : LaneName) (len : ℕ) (more : List Traffic) → lane.pair < length before.plan.pairs → lane.queue < (side_plan (pair_plan before.plan lane.pair) lane.from).queues
       → (IsTrafficLane before.plan lane → len ≤ (sizes_of (pair_plan before.plan lane.pair) lane.from lane.queue).largest → All (IsTraffic before.plan) more)
       → ((pair : ℕ) → count_by (is_break_of pair) more ≡ 0) → Gives (Fits before) (traffic_within before lane len more)
@@ -80,7 +80,7 @@ module _ (before : Before) (part : before.part ≡ Declarations → ⊥) (few : 
       (nat_lt most_traffic_entries (sizes_of (pair_plan before.plan lane.pair) lane.from lane.queue).entries) sizes in
       let has : MayHaveTraffic (pair_plan before.plan lane.pair) = may_have (pair_plan before.plan lane.pair) (not-false (may_have_traffic (pair_plan before.plan lane.pair)) may) in
       let room = and_parts (nat_le (sum (map frames_in before.plan.traffic) + sum (map frames_in more)) most_traffic_frames)
-      (nat_le (sum (map bytes_in before.plan.traffic) + sum (map bytes_in more)) most_traffic_bytes) (not-false (is_little before.plan.traffic more) little) in
+      (nat_le (sum (map traffic_bytes_in before.plan.traffic) + sum (map traffic_bytes_in more)) most_traffic_bytes) (not-false (is_little before.plan.traffic more) little) in
       gives_ok (Fits before) (MoreTraffic more) (record {
         part = part;
         items = items (record {
@@ -90,7 +90,7 @@ module _ (before : Before) (part : before.part ≡ Declarations → ⊥) (few : 
           short = ltb-false most_traffic_entries (sizes_of (pair_plan before.plan lane.pair) lane.from lane.queue).entries fit.1;
         }) (ltb-false (sizes_of (pair_plan before.plan lane.pair) lane.from lane.queue).largest len fit.0);
         few_frames = leb-true (sum (map frames_in before.plan.traffic) + sum (map frames_in more)) most_traffic_frames room.0;
-        few_bytes = leb-true (sum (map bytes_in before.plan.traffic) + sum (map bytes_in more)) most_traffic_bytes room.1;
+        few_bytes = leb-true (sum (map traffic_bytes_in before.plan.traffic) + sum (map traffic_bytes_in more)) most_traffic_bytes room.1;
         few_breaks = λ pair. let none = unbroken pair in let old = few pair in omega arith;
       }))))
 
@@ -98,8 +98,8 @@ module _ (before : Before) (part : before.part ≡ Declarations → ⊥) (few : 
   frame_fits pair_text side_text queue_text frame_text some =
       gives_then _ _ _ (queue_declared before 2 pair_text side_text queue_text) (λ name queue.
       gives_then _ _ _ (gives_at _ 5 _ (bytes_spelled frame_text some)) (λ frame filled.
-      within_fits (lane_of name) (length frame) (Send (lane_of name) frame ∷ []) queue.declared queue.among
-      (λ lane short. All-cons (IsTraffic before.plan) (Send (lane_of name) frame) [] (lane, filled, short) (All-nil (IsTraffic before.plan)))
+      within_fits (script_lane_of name) (length frame) (Send (script_lane_of name) frame ∷ []) queue.declared queue.among
+      (λ lane short. All-cons (IsTraffic before.plan) (Send (script_lane_of name) frame) [] (lane, filled, short) (All-nil (IsTraffic before.plan)))
       (λ other. refl)))
 
   flooded : (lane : LaneName) (len : ℕ) → IsTrafficLane before.plan lane → len ≤ (sizes_of (pair_plan before.plan lane.pair) lane.from lane.queue).largest → 1 ≤ len → (i : ℕ)
@@ -111,11 +111,11 @@ module _ (before : Before) (part : before.part ≡ Declarations → ⊥) (few : 
       gives_then _ _ _ (queue_declared before 2 pair_text side_text queue_text) (λ name queue.
       gives_then _ _ _ (number_ranged 5 1 most_traffic_frames count_text) (λ count _.
       gives_then _ _ _ (number_ranged 6 1 most_frame_bytes len_text) (λ len range.
-      within_fits (lane_of name) len
-      (map (λ i. Send (lane_of name) (flood_frame len i)) (count_from 0 count)) queue.declared queue.among
-      (λ lane short. All-map (IsTraffic before.plan) (λ i. Send (lane_of name) (flood_frame len i)) (count_from 0 count)
-      (λ k d _. flooded (lane_of name) len lane short range.0 (get_or (count_from 0 count) k d)))
-      (λ other. no_breaks other (λ i. Send (lane_of name) (flood_frame len i)) (λ i. refl) 0 count))))
+      within_fits (script_lane_of name) len
+      (map (λ i. Send (script_lane_of name) (flood_frame len i)) (count_from 0 count)) queue.declared queue.among
+      (λ lane short. All-map (IsTraffic before.plan) (λ i. Send (script_lane_of name) (flood_frame len i)) (count_from 0 count)
+      (λ k d _. flooded (script_lane_of name) len lane short range.0 (get_or (count_from 0 count) k d)))
+      (λ other. no_breaks other (λ i. Send (script_lane_of name) (flood_frame len i)) (λ i. refl) 0 count))))
 
   break_fits : (pair_text : List ℕ) → Gives (Fits before) (break_line before pair_text)
   break_fits pair_text =

@@ -22,7 +22,7 @@ use Rattle.pair_model.specs.DeclaredPlans.{IsPair, IsDevice, IsDeclared, SameQue
 use Rattle.pair_model.proofs.Facade.{with_lists, queue_of_other, switches_of_other, makeable_by_other}
 use Rattle.pair_model.specs.Plans.{pair_plan, dev_plan, ports_in, no_pair, no_dev}
 use Rattle.pair_model.specs.Switches.{AreSwitches, IsMakeable, IsSwitch}
-use Rattle.pair_model.specs.TrafficPlans.{frames_in, bytes_in, is_break_of, IsTraffic, IsWhole}
+use Rattle.pair_model.specs.TrafficPlans.{frames_in, traffic_bytes_in, is_break_of, IsTraffic, IsWhole}
 use Rattle.script_words.specs.Before.{Before, nothing_before, with_given, with_class, Given, Nothing, Host, APair, ADevice, AClass, ASwitch, StepsBegin, TrafficBegins, MoreSteps, MoreTraffic}
 use Rattle.script_words.specs.Declarations.{sits_on}
 use Rattle.script_words.specs.Tests.{whole}
@@ -272,7 +272,7 @@ traffic_kept n before traffic held fits =
         traffic = All-append (IsTraffic next) before.plan.traffic traffic
             (All-weaker (IsTraffic plan) (IsTraffic next) stays before.plan.traffic whole.traffic) (All-weaker (IsTraffic plan) (IsTraffic next) stays traffic fits.items);
         few_frames = let parts = sum-map-append frames_in before.plan.traffic traffic in let few = fits.few_frames in omega arith;
-        few_bytes = let parts = sum-map-append bytes_in before.plan.traffic traffic in let few = fits.few_bytes in omega arith;
+        few_bytes = let parts = sum-map-append traffic_bytes_in before.plan.traffic traffic in let few = fits.few_bytes in omega arith;
         few_breaks = λ pair. let parts = sum_by-append (λ x. cond (is_break_of pair x) 1 0) before.plan.traffic traffic in let few = fits.few_breaks pair in omega arith;
       };
       declarations_first = λ e. absurd (fits.part e);

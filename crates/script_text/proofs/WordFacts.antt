@@ -14,7 +14,7 @@ use Rattle.pair_model.specs.Plans.{side_plan, pair_plan}
 use Rattle.script_words.specs.Before.{Before, number_named, has_name, pair_names, dev_names, switch_names, pair_word, dev_word, switch_word, queue_word, named_side, named_queue}
 use Rattle.script_words.specs.Declarations.{new_name}
 use Rattle.script_words.specs.Tests.{found_or, at}
-use Rattle.script_words.specs.Words.{name_word, side_word, number_word, number_between, number_in, hex_word, hex_of, kind_word, high_low, is_filled}
+use Rattle.script_words.specs.Words.{name_word, side_word, number_word, number_between, word_number_in, hex_word, hex_of, kind_word, high_low, is_filled}
 use Rattle.script_words.specs.declared.fault.Cause.TheVariants.{BadNumber, BadHex, Repeated, UnknownName}
 use Rattle.script_text.specs.SoundLines.{Filled}
 use Rattle.script_text.proofs.Gives.{Gives, gives_ok, gives_then, gives_passed, gives_found, gives_any, gives_at, gives_within}
@@ -106,7 +106,7 @@ number_within least most word =
     gives_ok (λ k. (least ≤ k) × (k ≤ most)) n (ltb-false n least parts.0, ltb-false most n parts.1)))
 
 -- A word that is taken as a number of a range gives a number from the range's least to its most.
-pub number_ranged : (n least most : ℕ) (word : List ℕ) → Gives (λ k. (least ≤ k) × (k ≤ most)) (number_in n least most word)
+pub number_ranged : (n least most : ℕ) (word : List ℕ) → Gives (λ k. (least ≤ k) × (k ≤ most)) (word_number_in n least most word)
 number_ranged n least most word = gives_within _ n least most _ (number_within least most word)
 
 -- Bytes

@@ -6,7 +6,7 @@ ghost use Rattle.step_kinds.specs.Limits.{most_frame_bytes};
 ghost use Rattle.pair_model.specs.DeclaredPlans.{IsPair};
 ghost use Rattle.pair_model.specs.Ethernet.{ethernet_header};
 ghost use Rattle.pair_model.specs.Plans.{side_plan, pair_plan};
-ghost use Rattle.step_list.specs.Compact.{steps_of};
+ghost use Rattle.step_list.specs.Compact.{line_steps_of};
 ghost use Rattle.script_words.specs.StepLines as rules;
 ghost use Rattle.script_words.specs.StepWords.{pair_step_of, side_steps_of, queue_steps_of, numbered_of, frame_steps_of};
 ghost use Rattle.script_text.specs.ParseClauses.{Adds};
@@ -32,7 +32,7 @@ use step_list::{Macro, Repeated};
 /// Adds the steps of a line, where they don't pass the script's limit.
 #[inline(always)]
 fn add_steps(before: &mut Reader, line: u32, steps: Macro) -> AddResult
-    ensures { Adds line before.old before.new result (rules.steps_within before.old (steps_of steps)) }
+    ensures { Adds line before.old before.new result (rules.steps_within before.old (line_steps_of steps)) }
 {
     if before.step_count() as u64 + steps.count() > MOST_STEPS as u64 {
         return Err(LineError::Fault(Cause::TooMany.of_line()));
@@ -277,7 +277,7 @@ fn poke_line(
 fn frame_steps(word: FrameWord, plan: &PairPlan, name: QueueName, frame: Frame) -> Macro
     requires declared { IsPair plan.now }
     requires among { name.queue < (side_plan plan.now name.side).queues }
-    ensures { steps_of result ≡ frame_steps_of word plan.now name.pair name.side name.queue frame }
+    ensures { line_steps_of result ≡ frame_steps_of word plan.now name.pair name.side name.queue frame }
 {
     let QueueName { pair, side, queue } = name;
     let len = frame.len();
@@ -306,7 +306,7 @@ fn frame_line(
     on: QueueWords<'_>,
     frame: &[u8],
 ) -> AddResult
-    ensures { Adds line before.old before.new result (rules.frame_line before.old (frame_steps_of word) on.entry.pair.now on.entry.side.now on.entry.queue.now frame.now) }
+    ensures { Adds line before.old before.new result (rules.script_frame_line before.old (frame_steps_of word) on.entry.pair.now on.entry.side.now on.entry.queue.now frame.now) }
 {
     let name = read_queue_name(before, 2, on)?;
     let bytes = read_bytes_at(alloc, 5, frame)?;
@@ -329,7 +329,7 @@ fn ethernet_steps(
 ) -> Macro
     requires declared { dev < length before.now.plan.devs }
     requires fits { length payload + ethernet_header ≤ most_frame_bytes }
-    ensures { steps_of result ≡ rules.ethernet_steps before.now.plan is_macro dev dst kind payload }
+    ensures { line_steps_of result ≡ rules.ethernet_steps before.now.plan is_macro dev dst kind payload }
 {
     let device = before.device(dev);
     let pair = device.pair;

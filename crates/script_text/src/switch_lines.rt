@@ -5,7 +5,7 @@ ghost use Rattle.std.specs.Prelude.{◌≡◌, ◌∷◌, ◌++◌, ◌<◌, ◌
 ghost use Rattle.std.specs.List.{All};
 ghost use Rattle.script_words.specs.Compact.{given_of};
 ghost use Rattle.script_words.specs.Declarations as rules;
-ghost use Rattle.script_words.specs.Ports.{on_one_host, ports_from, with_port};
+ghost use Rattle.script_words.specs.Ports.{on_one_host, ports_from, script_with_port};
 ghost use Rattle.script_words.specs.Reads.{ReadsLine, result_map};
 
 use crate::lines::LineResult;
@@ -19,7 +19,7 @@ use step_kinds::{Items, SwitchPlan};
 /// Returns the device that a word names, which is neither a port yet nor one of these.
 fn new_port(before: &Reader, devs: &[u32], word: &[u8]) -> Result<u32, LineFault>
     requires { length devs.now ≤ 16 }
-    ensures { result_map (λ dev. devs.now ++ dev ∷ []) result ≡ with_port before.now devs.now word.now }
+    ensures { result_map (λ dev. devs.now ++ dev ∷ []) result ≡ script_with_port before.now devs.now word.now }
 {
     let place = 3 + devs.len() as u32;
     let dev = at(place, read_device(before, word))?;

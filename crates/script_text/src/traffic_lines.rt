@@ -5,7 +5,7 @@ ghost use Rattle.std.specs.Prelude.{◌≡◌, ◌<◌, ◌≤◌, ◌*◌, leng
 ghost use Rattle.step_kinds.specs.Limits.{most_frame_bytes, most_traffic_frames};
 ghost use Rattle.step_kinds.specs.declared.plan.Traffic.{Traffic};
 ghost use Rattle.pair_model.specs.Plans.{side_plan, pair_plan};
-ghost use Rattle.pair_model.specs.TrafficPlans.{frames_in, bytes_in};
+ghost use Rattle.pair_model.specs.TrafficPlans.{frames_in, traffic_bytes_in};
 ghost use Rattle.script_words.specs.Before.{MoreTraffic};
 ghost use Rattle.script_words.specs.Compact.{given_of};
 ghost use Rattle.script_words.specs.Reads.{ReadsLine, result_map};
@@ -36,7 +36,7 @@ fn test_lane(before: &Reader, lane: LaneName, len: u64, count: u64) -> Result<()
     requires declared { lane.pair < length before.now.plan.pairs }
     requires among { lane.queue < (side_plan (pair_plan before.now.plan lane.pair) lane.from).queues }
     requires count { count ≤ most_traffic_frames }
-    ensures value { (more : List Traffic) → sum (map frames_in more) ≡ count → sum (map bytes_in more) ≡ count * len → result_map (λ _. MoreTraffic more) result ≡ rules.traffic_within before.now lane len more }
+    ensures value { (more : List Traffic) → sum (map frames_in more) ≡ count → sum (map traffic_bytes_in more) ≡ count * len → result_map (λ _. MoreTraffic more) result ≡ rules.traffic_within before.now lane len more }
     ensures short { OnOk result (len ≤ most_frame_bytes) }
 {
     let pair = before.pair(lane.pair);
@@ -69,7 +69,7 @@ fn break_line(before: &Reader, pair: &[u8]) -> Result<Given, LineFault>
 
 /// Returns the lane that a queue's side sends.
 fn lane_of(name: QueueName) -> LaneName
-    ensures { result ≡ rules.lane_of name }
+    ensures { result ≡ rules.script_lane_of name }
 {
     LaneName {
         pair: name.pair,

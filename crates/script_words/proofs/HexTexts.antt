@@ -9,7 +9,7 @@ use Rattle.hex.specs.Hex.{IsBytes, decode_of, decode_pairs, digit_or_error, enco
 use Rattle.hex.specs.declared.error.FromHexError.{FromHexError}
 use Rattle.hex.proofs.HexLemmas.{decode_of-even, decode_of-ok, decode_of-encode_lower}
 use Rattle.script_words.specs.Laws.{BytesAreHex}
-use Rattle.script_words.specs.Words.{bytes_of}
+use Rattle.script_words.specs.Words.{word_bytes_of}
 
 -- A letter in small letters
 
@@ -116,7 +116,7 @@ found : (r : Result (List ℕ) FromHexError) (bytes : List ℕ) → result_ok r 
 found (Ok more) bytes e = let same : more ≡ bytes = cc in rw same refl
 found (Err error) bytes e = cc e
 
-spelled_text : (word bytes : List ℕ) → bytes_of word ≡ Some bytes → (str_to_ascii_lowercase word ≡ encode_lower bytes) × IsBytes bytes
+spelled_text : (word bytes : List ℕ) → word_bytes_of word ≡ Some bytes → (str_to_ascii_lowercase word ≡ encode_lower bytes) × IsBytes bytes
 spelled_text word bytes e =
     let is = found (decode_of word) bytes e in
     let ok = decode_of-ok word bytes is in
@@ -183,7 +183,7 @@ pairs_again i (a ∷ b ∷ rest) bytes e =
     pair_again a b (to_ascii_lowercase a) (to_ascii_lowercase b) i bytes (hex_digit_value a) (hex_digit_value b) (decode_pairs (i + 2) rest) (decode_pairs (i + 2) (str_to_ascii_lowercase rest)) both
     (λ more h. pairs_again (i + 2) rest more h)
 
-text_spells : (word bytes : List ℕ) → str_to_ascii_lowercase word ≡ encode_lower bytes → IsBytes bytes → bytes_of word ≡ Some bytes
+text_spells : (word bytes : List ℕ) → str_to_ascii_lowercase word ≡ encode_lower bytes → IsBytes bytes → word_bytes_of word ≡ Some bytes
 text_spells word bytes e are =
     let small : decode_of (str_to_ascii_lowercase word) ≡ Ok bytes = ap decode_of e ∙ decode_of-encode_lower bytes are in
     let even = (decode_of-ok (str_to_ascii_lowercase word) bytes small).0 in

@@ -6,7 +6,7 @@ use Rattle.std.proofs.lemmas.Str.Parse.{IsDigitsTest, FoldsDigits, IsNumeralMode
 use Rattle.std.specs.Fmt.{decimal}
 use Rattle.std.specs.List.{list_all}
 use Rattle.script_words.specs.Laws.{NumbersAreDecimal}
-use Rattle.script_words.specs.Words.{is_digit, is_plain, value_from, number_of}
+use Rattle.script_words.specs.Words.{is_digit, is_plain, value_from, word_number_of}
 
 abbrev AllDigit : List ℕ → Type 0
 AllDigit ds = list_all is_digit ds ≡ true
@@ -56,7 +56,7 @@ spelled_by word n true is e =
     (sym text ∙ ap decimal value, omega arith)
 spelled_by word n false is e = cc e
 
-text_spells : (n : ℕ) → n < 2 ^ 32 → number_of (decimal n) ≡ Some n
+text_spells : (n : ℕ) → n < 2 ^ 32 → word_number_of (decimal n) ≡ Some n
 text_spells n small =
     let wide : n < 2 ^ 64 = omega arith in
     let value : value_from 0 (decimal n) ≡ n = digits_value-decimal own n wide in
@@ -69,5 +69,5 @@ text_spells n small =
 pub number_texts : NumbersAreDecimal
 number_texts = λ word n. (
   λ e. spelled_by word n (list_all is_digit word && (is_plain word && nat_lt (value_from 0 word) (2 ^ 32))) refl e,
-  λ h. ap number_of h.0 ∙ text_spells n h.1,
+  λ h. ap word_number_of h.0 ∙ text_spells n h.1,
 )

@@ -13,7 +13,7 @@ use Rattle.script_words.specs.Ports.{on_one_host, ports_from}
 use Rattle.pair_settings.specs.Settings.{pair_with, goes_together}
 use Rattle.script_words.specs.Settings.{settings_from}
 use Rattle.script_words.specs.Tests.{◌>>=◌, fault_if, found_or, unknown_line, whole, at, within}
-use Rattle.script_words.specs.Words.{name_word, number_word, number_in, hex_of, behind}
+use Rattle.script_words.specs.Words.{name_word, number_word, word_number_in, hex_of, behind}
 use Rattle.script_words.specs.declared.parts.QueueName.{QueueName}
 use Rattle.script_words.specs.declared.fault.Cause.{Cause}
 use Rattle.script_words.specs.declared.fault.Cause.TheVariants.{UnknownWord, Repeated, UnknownName, BadGeometry, BadSwitch, TooMany}
@@ -90,7 +90,7 @@ is_queue pair side queue name = (name.pair == pair) && (same_side name.side side
 abbrev pub class_line : Before → List ℕ → List ℕ → List ℕ → List ℕ → Result Given LineFault
 class_line before pair_text side_text queue_text class_text = do
   name ← named_queue before 2 pair_text side_text queue_text
-  class ← number_in 5 0 7 class_text
+  class ← word_number_in 5 0 7 class_text
   _ ← fault_if (list_any (is_queue name.pair name.side name.queue) before.classed) (whole Repeated)
   Ok (AClass name class)
 

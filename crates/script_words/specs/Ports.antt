@@ -43,8 +43,8 @@ abbrev pub port_place : List ℕ → ℕ
 port_place devs = 3 + length devs
 
 -- the devices with the one that a word names, which is neither a port yet nor one of them
-abbrev pub with_port : Before → List ℕ → List ℕ → Result (List ℕ) LineFault
-with_port before devs word = do
+abbrev pub script_with_port : Before → List ℕ → List ℕ → Result (List ℕ) LineFault
+script_with_port before devs word = do
   dev ← at (port_place devs) (dev_word before word)
   _ ← fault_if (is_port before dev || is_among devs dev) (fault_at (port_place devs) Repeated)
   Ok (devs ++ dev ∷ [])
@@ -53,5 +53,5 @@ with_port before devs word = do
 abbrev pub ports_from : Before → List ℕ → List (List ℕ) → Result (List ℕ) LineFault
 ports_from before devs [] = Ok devs
 ports_from before devs (word ∷ words) = do
-  more ← with_port before devs word
+  more ← script_with_port before devs word
   ports_from before more words

@@ -8,10 +8,10 @@ use Rattle.script_words.specs.declared.fault.LineError.{LineError}
 use Rattle.script_words.specs.declared.fault.LineError.TheVariants.{Fault as LineHas, OutOfMemory as NoRoom}
 
 -- a reader gives what is due; only out of memory is free
-abbrev pub Reads : {X : Type 0} → Result X ReadError → Result X Cause → Type 0
-Reads (Ok x) due = due ≡ Ok x
-Reads (Err (Fault cause)) due = due ≡ Err cause
-Reads (Err OutOfMemory) due = Unit {0}
+abbrev pub WordReads : {X : Type 0} → Result X ReadError → Result X Cause → Type 0
+WordReads (Ok x) due = due ≡ Ok x
+WordReads (Err (Fault cause)) due = due ≡ Err cause
+WordReads (Err OutOfMemory) due = Unit {0}
 
 -- and so does a line's reader, whose fault has its word
 abbrev pub ReadsLine : {X : Type 0} → Result X LineError → Result X LineFault → Type 0

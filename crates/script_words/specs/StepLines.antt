@@ -15,7 +15,7 @@ use Rattle.pair_model.specs.Plans.{side_plan, pair_plan, dev_plan, switch_plan, 
 use Rattle.script_words.specs.Before.{Before, Given, MoreSteps, TrafficBegins, pair_word, dev_word, switch_word, named_side, named_queue}
 use Rattle.script_words.specs.Ports.{is_port}
 use Rattle.script_words.specs.Tests.{◌>>=◌, fault_if, fault_at, unknown_line, whole, at}
-use Rattle.script_words.specs.Words.{number_word, number_in, hex_word, hex_of, kind_word}
+use Rattle.script_words.specs.Words.{number_word, word_number_in, hex_word, hex_of, kind_word}
 use Rattle.script_words.specs.declared.fault.Cause.TheVariants.{BadNumber, UnknownName, BadPair, TooMany}
 use Rattle.script_words.specs.declared.fault.LineFault.{LineFault}
 
@@ -79,7 +79,7 @@ queue_line before steps pair_text side_text queue_text = do
 abbrev pub receive_line : Before → List ℕ → List ℕ → List ℕ → List ℕ → Result Given LineFault
 receive_line before pair_text side_text queue_text copies_text = do
   name ← named_queue before 2 pair_text side_text queue_text
-  copies ← number_in 5 1 512 copies_text
+  copies ← word_number_in 5 1 512 copies_text
   steps_within before (receive name.pair name.side name.queue copies)
 
 -- P S Q HEX
@@ -89,8 +89,8 @@ frame_steps word =
     else if bytes_eq word (codes "send") then Some send
     else None
 
-abbrev pub frame_line : Before → (PairPlan → ℕ → Side → ℕ → List ℕ → List Step) → List ℕ → List ℕ → List ℕ → List ℕ → Result Given LineFault
-frame_line before steps pair_text side_text queue_text frame_text = do
+abbrev pub script_frame_line : Before → (PairPlan → ℕ → Side → ℕ → List ℕ → List Step) → List ℕ → List ℕ → List ℕ → List ℕ → Result Given LineFault
+script_frame_line before steps pair_text side_text queue_text frame_text = do
   name ← named_queue before 2 pair_text side_text queue_text
   frame ← at 5 (hex_word frame_text)
   _ ← fault_if (nat_lt most_frame_bytes (length frame)) (whole TooMany)
@@ -119,14 +119,14 @@ numbered_steps word =
 abbrev pub numbered_line : Before → NumberedSteps → List ℕ → List ℕ → List ℕ → Result Given LineFault
 numbered_line before numbered pair_text side_text number_text = do
   name ← named_side before 2 pair_text side_text
-  number ← number_in 4 numbered.least numbered.most number_text
+  number ← word_number_in 4 numbered.least numbered.most number_text
   steps_within before (numbered.steps name.pair name.side number)
 
 -- `spad P S INDEX VALUE`: the scratchpads below 12 are the transport's own
 abbrev pub spad_line : Before → List ℕ → List ℕ → List ℕ → List ℕ → Result Given LineFault
 spad_line before pair_text side_text index_text value_text = do
   name ← named_side before 2 pair_text side_text
-  i ← number_in 4 0 15 index_text
+  i ← word_number_in 4 0 15 index_text
   value ← at 5 (number_word value_text)
   _ ← fault_if (nat_lt i 12 && not (pair_plan before.plan name.pair).raw) (whole BadPair)
   steps_within before (Spad name.pair name.side i value ∷ [])
@@ -136,7 +136,7 @@ abbrev pub show_memory_line : Before → List ℕ → List ℕ → List ℕ → 
 show_memory_line before pair_text side_text start_text len_text = do
   name ← named_side before 2 pair_text side_text
   start ← at 4 (number_word start_text)
-  len ← number_in 5 1 64 len_text
+  len ← word_number_in 5 1 64 len_text
   _ ← fault_if (nat_lt ((side_plan (pair_plan before.plan name.pair) name.side).windows * (side_plan (pair_plan before.plan name.pair) name.side).cap) (start + len)) (fault_at 5 BadNumber)
   steps_within before (ShowMem name.pair name.side start len ∷ [])
 
@@ -232,7 +232,7 @@ line_of_four before word a b c d =
     else if bytes_eq word (codes "showmem") then show_memory_line before a b c d
     else if bytes_eq word (codes "xbegin") then ethernet_line before false a b c d
     else if bytes_eq word (codes "xmit") then ethernet_line before true a b c d
-    else or_unknown (frame_steps word) (λ steps. frame_line before steps a b c d)
+    else or_unknown (frame_steps word) (λ steps. script_frame_line before steps a b c d)
 
 abbrev pub line_of_five : Before → List ℕ → List ℕ → List ℕ → List ℕ → List ℕ → List ℕ → Result Given LineFault
 line_of_five before word a b c d e = if bytes_eq word (codes "poke") then poke_line before a b c d e else Err unknown_line

@@ -9,11 +9,11 @@ use Rattle.step_kinds.specs.declared.plan.Traffic.TheVariants.{Send, Break}
 use Rattle.lane_model.specs.Lane.{count_from}
 use Rattle.pair_model.specs.Plans.{pair_plan}
 use Rattle.pair_model.specs.Sizes.{sizes_of}
-use Rattle.pair_model.specs.TrafficPlans.{frames_in, bytes_in, is_break_of}
+use Rattle.pair_model.specs.TrafficPlans.{frames_in, traffic_bytes_in, is_break_of}
 use Rattle.script_words.specs.Before.{Before, Given, MoreTraffic, pair_word, named_queue}
 use Rattle.pair_settings.specs.Settings.{agrees}
 use Rattle.script_words.specs.Tests.{◌>>=◌, fault_if, unknown_line, whole, at}
-use Rattle.script_words.specs.Words.{number_in, hex_word}
+use Rattle.script_words.specs.Words.{word_number_in, hex_word}
 use Rattle.script_words.specs.declared.parts.QueueName.{QueueName}
 use Rattle.script_words.specs.declared.fault.Cause.TheVariants.{BadGeometry, BadPair, TooMany}
 use Rattle.script_words.specs.declared.fault.LineFault.{LineFault}
@@ -26,7 +26,7 @@ may_have_traffic pair = not pair.raw && agrees pair
 abbrev pub is_little : List Traffic → List Traffic → Bool
 is_little before more =
     nat_le (sum (map frames_in before) + sum (map frames_in more)) most_traffic_frames
-    && nat_le (sum (map bytes_in before) + sum (map bytes_in more)) most_traffic_bytes
+    && nat_le (sum (map traffic_bytes_in before) + sum (map traffic_bytes_in more)) most_traffic_bytes
 
 -- frames of this many bytes each on a lane: they have to fit an entry of its ring, and the ring must not be too long.
 -- Then the pair has to be one that may have traffic, and no limit may be passed.
@@ -39,15 +39,15 @@ traffic_within before lane len more = do
   Ok (MoreTraffic more)
 
 -- the lane that begins at a queue of a side
-abbrev pub lane_of : QueueName → LaneName
-lane_of name = record { pair = name.pair; from = name.side; queue = name.queue }
+abbrev pub script_lane_of : QueueName → LaneName
+script_lane_of name = record { pair = name.pair; from = name.side; queue = name.queue }
 
 -- `frame PAIR SIDE QUEUE HEX`
 abbrev pub traffic_frame_line : Before → List ℕ → List ℕ → List ℕ → List ℕ → Result Given LineFault
 traffic_frame_line before pair_text side_text queue_text frame_text = do
   name ← named_queue before 2 pair_text side_text queue_text
   frame ← at 5 (hex_word frame_text)
-  traffic_within before (lane_of name) (length frame) (Send (lane_of name) frame ∷ [])
+  traffic_within before (script_lane_of name) (length frame) (Send (script_lane_of name) frame ∷ [])
 
 -- frame i of a flood: byte j is the sum of both, in a byte
 abbrev pub flood_frame : ℕ → ℕ → List ℕ
@@ -57,10 +57,10 @@ flood_frame len i = map (λ j. (i + j) % 256) (count_from 0 len)
 abbrev pub flood_line : Before → List ℕ → List ℕ → List ℕ → List ℕ → List ℕ → Result Given LineFault
 flood_line before pair_text side_text queue_text count_text len_text = do
   name ← named_queue before 2 pair_text side_text queue_text
-  count ← number_in 5 1 most_traffic_frames count_text
-  len ← number_in 6 1 most_frame_bytes len_text
-  traffic_within before (lane_of name) len
-      (map (λ i. Send (lane_of name) (flood_frame len i)) (count_from 0 count))
+  count ← word_number_in 5 1 most_traffic_frames count_text
+  len ← word_number_in 6 1 most_frame_bytes len_text
+  traffic_within before (script_lane_of name) len
+      (map (λ i. Send (script_lane_of name) (flood_frame len i)) (count_from 0 count))
 
 -- `break PAIR`
 abbrev pub break_line : Before → List ℕ → Result Given LineFault

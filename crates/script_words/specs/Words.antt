@@ -56,12 +56,12 @@ is_name (b ∷ bytes) = is_letter b && (nat_lt (length bytes) 16 && list_all (λ
 abbrev pub name_word : List ℕ → Result (List ℕ) Cause
 name_word word = found_or (if is_name word then Some word else None) BadName
 
-abbrev pub side_of : List ℕ → Option Side
-side_of (b ∷ []) = if b == 65 then Some A else if b == 66 then Some B else None
-side_of word = None
+abbrev pub word_side_of : List ℕ → Option Side
+word_side_of (b ∷ []) = if b == 65 then Some A else if b == 66 then Some B else None
+word_side_of word = None
 
 abbrev pub side_word : List ℕ → Result Side Cause
-side_word word = found_or (side_of word) BadName
+side_word word = found_or (word_side_of word) BadName
 
 -- Numbers
 
@@ -77,11 +77,11 @@ is_plain (digit ∷ []) = true
 is_plain (digit ∷ next ∷ digits) = not (digit == 48)
 
 -- the number that a word spells, below 2^32
-abbrev pub number_of : List ℕ → Option ℕ
-number_of word = if list_all is_digit word && (is_plain word && nat_lt (value_from 0 word) (2 ^ 32)) then Some (value_from 0 word) else None
+abbrev pub word_number_of : List ℕ → Option ℕ
+word_number_of word = if list_all is_digit word && (is_plain word && nat_lt (value_from 0 word) (2 ^ 32)) then Some (value_from 0 word) else None
 
 abbrev pub number_word : List ℕ → Result ℕ Cause
-number_word word = found_or (number_of word) BadNumber
+number_word word = found_or (word_number_of word) BadNumber
 
 -- the number that a word spells, from the least to the most
 abbrev pub number_between : ℕ → ℕ → List ℕ → Result ℕ Cause
@@ -91,17 +91,17 @@ number_between least most word = do
   Ok number
 
 -- the same of word n of a line, whose fault tells the range
-abbrev pub number_in : ℕ → ℕ → ℕ → List ℕ → Result ℕ LineFault
-number_in n least most word = within n least most (number_between least most word)
+abbrev pub word_number_in : ℕ → ℕ → ℕ → List ℕ → Result ℕ LineFault
+word_number_in n least most word = within n least most (number_between least most word)
 
 -- Bytes
 
 -- the bytes that a word spells by pairs of hexadecimal digits
-abbrev pub bytes_of : List ℕ → Option (List ℕ)
-bytes_of word = result_ok (decode_of word)
+abbrev pub word_bytes_of : List ℕ → Option (List ℕ)
+word_bytes_of word = result_ok (decode_of word)
 
 abbrev pub hex_word : List ℕ → Result (List ℕ) Cause
-hex_word word = found_or (bytes_of word) BadHex
+hex_word word = found_or (word_bytes_of word) BadHex
 
 -- this many bytes
 abbrev pub hex_of : ℕ → List ℕ → Result (List ℕ) Cause

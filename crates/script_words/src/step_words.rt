@@ -2,7 +2,7 @@
 
 ghost use Rattle.std.specs.Prelude.{◌≡◌, ◌≤◌, ◌∷◌, []};
 ghost use Rattle.std.specs.Option.{option_map};
-ghost use Rattle.step_list.specs.Compact.{step_again, steps_of};
+ghost use Rattle.step_list.specs.Compact.{step_again, line_steps_of};
 ghost use Rattle.script_words.specs.StepLines.{pair_step, side_steps, queue_steps, numbered_steps, frame_steps};
 ghost use Rattle.script_words.specs.StepWords.{pair_step_of, side_steps_of, side_steps_with, queue_steps_of, numbered_of, frame_steps_of};
 
@@ -146,7 +146,7 @@ impl SideWord {
     /// Returns the steps of the word on a side with this many windows, at most 4.
     pub fn steps(self, windows: u32, pair: u32, side: Side) -> Macro
         requires { windows ≤ 4 }
-        ensures { steps_of result ≡ side_steps_with self windows pair side }
+        ensures { line_steps_of result ≡ side_steps_with self windows pair side }
     {
         let step = match self {
             SideWord::Enable => Step::Enable { pair, side },
@@ -169,7 +169,7 @@ impl QueueWord {
     /// Returns the steps of the word on a queue.
     #[inline]
     pub fn steps(self, pair: u32, side: Side, queue: u32) -> Macro
-        ensures { steps_of result ≡ queue_steps_of self pair side queue }
+        ensures { line_steps_of result ≡ queue_steps_of self pair side queue }
     {
         match self {
             QueueWord::Ready => one(Step::Ready { pair, side, queue }),
@@ -215,7 +215,7 @@ impl NumberWord {
     /// Returns the steps of the word on a side, with the number.
     #[inline]
     pub fn steps(self, pair: u32, side: Side, number: u32) -> Macro
-        ensures { steps_of result ≡ (numbered_of self).steps pair side number }
+        ensures { line_steps_of result ≡ (numbered_of self).steps pair side number }
     {
         let (place, bits, index) = (number, number, number);
         match self {
@@ -238,14 +238,14 @@ impl NumberWord {
 
 // Returns a step of its own.
 fn one(step: Step) -> Macro
-    ensures { steps_of result ≡ step ∷ [] }
+    ensures { line_steps_of result ≡ step ∷ [] }
 {
     Macro::One { step }
 }
 
 // Returns a step of few numbers that stands once.
 fn once(repeated: Repeated) -> Macro
-    ensures { steps_of result ≡ step_again repeated ∷ [] }
+    ensures { line_steps_of result ≡ step_again repeated ∷ [] }
 {
     Macro::Again { repeated, count: 1 }
 }

@@ -3,7 +3,7 @@
 
 ghost use Rattle.std.specs.Prelude.{◌≡◌, ◌||◌};
 ghost use Rattle.std.specs.List.{list_all};
-ghost use Rattle.script_words.specs.Reads.{Reads, ReadsLine};
+ghost use Rattle.script_words.specs.Reads.{WordReads, ReadsLine};
 ghost use Rattle.script_words.specs.Tests as tests;
 ghost use Rattle.script_words.specs.Words as spelled;
 
@@ -77,7 +77,7 @@ fn is_plain(word: &[u8]) -> bool
 
 /// Returns the number that a word spells: decimal digits without a leading zero but for zero itself, below 2^32.
 fn number_of(word: &[u8]) -> Option<u32>
-    ensures { result ≡ spelled.number_of word.now }
+    ensures { result ≡ spelled.word_number_of word.now }
 {
     if !is_plain(word) {
         return None;
@@ -128,7 +128,7 @@ pub fn read_number_between(least: u32, most: u32, word: &[u8]) -> Result<u32, Ca
 ///
 /// The fault of [`Cause::BadNumber`] at word `n`, with the range, if [`read_number_between`] answers that cause.
 pub fn read_number_in(n: u32, least: u32, most: u32, word: &[u8]) -> Result<u32, LineFault>
-    ensures { result ≡ spelled.number_in n least most word.now }
+    ensures { result ≡ spelled.word_number_in n least most word.now }
 {
     within(
         n,
@@ -144,7 +144,7 @@ pub fn read_number_in(n: u32, least: u32, most: u32, word: &[u8]) -> Result<u32,
 /// [`ReadError::OutOfMemory`] if memory runs out. Else [`ReadError::Fault`] of [`Cause::BadHex`] if the word isn't
 /// pairs of hexadecimal digits.
 pub fn read_bytes(alloc: Global, word: &[u8]) -> Result<Items<u8>, ReadError>
-    ensures { Reads result (spelled.hex_word word.now) }
+    ensures { WordReads result (spelled.hex_word word.now) }
 {
     match hex::decode(alloc, word) {
         Ok(bytes) => Ok(Items::of_vec(bytes)),

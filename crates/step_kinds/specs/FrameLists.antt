@@ -11,8 +11,8 @@ abbrev pub no_frames : Frames
 no_frames = record { frames = []; spare = 0 }
 
 -- room is promised for this many more frames
-abbrev pub promised : Frames → ℕ → Frames
-promised list more = record { frames = list.frames; spare = list.spare + more }
+abbrev pub frames_promised : Frames → ℕ → Frames
+frames_promised list more = record { frames = list.frames; spare = list.spare + more }
 
 -- the frame stands after all others, in room that was promised
 abbrev pub with_last : Frames → List ℕ → Frames
@@ -23,8 +23,8 @@ abbrev pub with_first : Frames → List ℕ → Frames
 with_first list frame = record { frames = frame ∷ list.frames; spare = list.spare - 1 }
 
 -- the first frame, where there is one, is taken out, and its room is promised again
-abbrev pub without_first : Frames → Frames
-without_first list = record { frames = drop 1 list.frames; spare = list.spare + min 1 (length list.frames) }
+abbrev pub frames_without_first : Frames → Frames
+frames_without_first list = record { frames = drop 1 list.frames; spare = list.spare + min 1 (length list.frames) }
 
 -- two lists say the same where their frames are the same, whatever room is promised
 abbrev pub SameFrames : Frames → Frames → Type 0

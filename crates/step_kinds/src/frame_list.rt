@@ -1,7 +1,7 @@
 //! Lists of frames with promised room.
 
 ghost use Rattle.std.specs.Prelude.{◌≡◌, ◌<◌, ◌↔◌, [], length, slice_get, slice_index_or, IsTrue, OnOk, OnErr};
-ghost use Rattle.step_kinds.specs.FrameLists.{no_frames, promised, with_last, with_first, without_first};
+ghost use Rattle.step_kinds.specs.FrameLists.{no_frames, frames_promised, with_last, with_first, frames_without_first};
 
 use crate::frame::Frame;
 use std::alloc::{AllocError, Global};
@@ -36,7 +36,7 @@ impl FrameList {
     ///
     /// [`AllocError`] if memory runs out, and then the list and its promises are as they were.
     pub fn promise(&mut self, more: usize) -> Result<(), AllocError>
-        ensures ok { OnOk result (self.new ≡ promised self.old more) }
+        ensures ok { OnOk result (self.new ≡ frames_promised self.old more) }
         ensures err { OnErr result (self.new ≡ self.old) }
     {
         let spare = self.spare.checked_add(more).ok_or(AllocError)?;
@@ -58,7 +58,7 @@ impl FrameList {
     /// promised again: it serves a later [`FrameList::push`] or [`FrameList::put_back`].
     pub fn take_first(&mut self) -> Option<Frame>
         ensures frame { result ≡ slice_get self.old.frames 0 }
-        ensures rest { self.new ≡ without_first self.old }
+        ensures rest { self.new ≡ frames_without_first self.old }
     {
         let first = self.frames.pop_front()?;
         self.spare += 1;

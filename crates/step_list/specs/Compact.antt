@@ -19,11 +19,11 @@ step_again (Acks pair side queue) = Ack pair side queue
 step_again (Offers pair side) = Offer pair side
 
 -- the steps of a line
-abbrev pub steps_of : Macro → List Step
-steps_of (One step) = step ∷ []
-steps_of (Posted begin repeated count) = begin ∷ replicate count (step_again repeated)
-steps_of (Again repeated count) = replicate count (step_again repeated)
-steps_of (Received pair side queue copies) = Look pair side queue ∷ (replicate copies (Copy pair side queue) ++ Clear pair side queue ∷ Ack pair side queue ∷ [])
+abbrev pub line_steps_of : Macro → List Step
+line_steps_of (One step) = step ∷ []
+line_steps_of (Posted begin repeated count) = begin ∷ replicate count (step_again repeated)
+line_steps_of (Again repeated count) = replicate count (step_again repeated)
+line_steps_of (Received pair side queue copies) = Look pair side queue ∷ (replicate copies (Copy pair side queue) ++ Clear pair side queue ∷ Ack pair side queue ∷ [])
 
 -- the steps of line n
 abbrev pub lines_with : ℕ → List Step → List Line

@@ -1,7 +1,7 @@
 //! The steps of a line, kept short until their number is tested.
 
 ghost use Rattle.std.specs.Prelude.{◌≡◌, ◌^◌, ◌≤◌, length};
-ghost use Rattle.step_list.specs.Compact.{step_again, steps_of};
+ghost use Rattle.step_list.specs.Compact.{step_again, line_steps_of};
 
 use step_kinds::{Side, Step};
 
@@ -71,7 +71,7 @@ impl Repeated {
 impl Macro {
     /// Returns how many steps the line has: at most 2^33.
     pub fn count(&self) -> u64
-        ensures value { result ≡ length (steps_of self.now) }
+        ensures value { result ≡ length (line_steps_of self.now) }
         ensures few { result ≤ 2 ^ 33 }
     {
         match self {

@@ -1,7 +1,7 @@
 //! The steps that the lines so far give, in which a step that a line repeats is kept once.
 
 ghost use Rattle.std.specs.Prelude.{◌≡◌, ◌∷◌, ◌++◌, [], replicate, IfOk, OnErr, OnOk};
-ghost use Rattle.step_list.specs.Compact.{lines_with, step_again, steps_of};
+ghost use Rattle.step_list.specs.Compact.{lines_with, step_again, line_steps_of};
 ghost use Rattle.step_list.specs.StepLists.{all_lines, lines_in};
 
 use crate::macros::{Macro, Repeated};
@@ -82,7 +82,7 @@ impl StepList {
     /// Adds the steps of line `line`. Returns an error if memory runs out, and then nothing is added.
     #[inline(always)]
     pub fn push(&mut self, line: u32, more: Macro) -> Result<(), AllocError>
-        ensures ok { OnOk result (self.new ≡ self.old ++ lines_with line (steps_of more)) }
+        ensures ok { OnOk result (self.new ≡ self.old ++ lines_with line (line_steps_of more)) }
         ensures err { OnErr result (self.new ≡ self.old) }
     {
         match more {

@@ -4,7 +4,7 @@ use Rattle.std.specs.List.{All, fold}
 use Rattle.std.proofs.lemmas.List.Elements.{All-head, All-tail}
 use Rattle.std.proofs.lemmas.Bool.{cases_lt, le-ltb, lt-ltb}
 use Rattle.stream_model.specs.Numbers.{SaysAtMost, largest_in, number_frame, number_in}
-use Rattle.stream_model.specs.Sender.{Sender, ack_answer, ack_taken, after_ack, frames_of, most_items, next_frame, number_answer, one_given}
+use Rattle.stream_model.specs.Sender.{Sender, ack_answer, ack_taken, sender_after_ack, frames_of, most_items, next_frame, number_answer, one_given}
 use Rattle.stream_model.specs.declared.AckAnswer.{AckAnswer}
 use Rattle.stream_model.specs.declared.AckAnswer.TheVariants.{Newer, Old, Bad}
 use Rattle.stream_laws.specs.Laws.{given_by}
@@ -32,9 +32,9 @@ old : (sender : Sender) (number : ℕ) → number ≤ sender.place.ever → numb
 old sender number most below =
     ap (λ (b : Bool). cond b Bad (cond (ltb sender.acked number) Newer Old)) (le-ltb sender.place.ever number most) ∙ ap (λ (b : Bool). cond b Newer Old) (le-ltb sender.acked number below)
 
-took_number : (sender : Sender) (number : ℕ) → number ≤ sender.place.ever → TookAckOf sender number (after_ack sender number (number_answer sender (Some number))) (number_answer sender (Some number))
+took_number : (sender : Sender) (number : ℕ) → number ≤ sender.place.ever → TookAckOf sender number (sender_after_ack sender number (number_answer sender (Some number))) (number_answer sender (Some number))
 took_number sender number most =
-    let P : AckAnswer → Type 0 = λ answer. TookAckOf sender number (after_ack sender number answer) answer in
+    let P : AckAnswer → Type 0 = λ answer. TookAckOf sender number (sender_after_ack sender number answer) answer in
     elim (cases_lt sender.acked number) [
       | inl above ↦ subst P (sym (newer sender number most above)) (record { acked = omega arith; items = refl; start = refl; place = refl; before = inr refl; good = λ bad. cc })
       | inr below ↦ subst P (sym (old sender number most below)) (record { acked = omega arith; items = refl; start = refl; place = refl; before = inl refl; good = λ bad. cc })
@@ -45,7 +45,7 @@ pub took_ack : (sender : Sender) (number : ℕ) (frame : List ℕ) → number < 
     → TookAckOf sender number (ack_taken sender frame) (ack_answer sender frame)
 took_ack sender number frame small most e =
     let said : number_in frame ≡ Some number = ap number_in e ∙ number_in-number_frame number small in
-    let P : Option ℕ → Type 0 = λ o. TookAckOf sender number (after_ack sender (unwrap_or o 0) (number_answer sender o)) (number_answer sender o) in
+    let P : Option ℕ → Type 0 = λ o. TookAckOf sender number (sender_after_ack sender (unwrap_or o 0) (number_answer sender o)) (number_answer sender o) in
     subst P (sym said) (took_number sender number most)
 
 -- Of acknowledgements that say no more than was ever given, the largest counts, if it is above the last one.

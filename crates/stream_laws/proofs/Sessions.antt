@@ -9,7 +9,7 @@ use Rattle.stream_model.specs.Fronts.{Begins}
 use Rattle.stream_model.specs.Numbers.{SaysAtMost, largest_in, number_in}
 use Rattle.stream_model.specs.Sender.{most_items, session_frames}
 use Rattle.stream_model.specs.Receiver.{Receiver, new_receiver, taken}
-use Rattle.stream_model.specs.Resumed.{AreSessionsOf, Exchange, IsInOrder, acked_by, after_session, kept_by, no_exchange, session_at}
+use Rattle.stream_model.specs.Resumed.{AreSessionsOf, Exchange, IsStreamInOrder, acked_by, after_session, kept_by, no_exchange, session_at}
 use Rattle.stream_model.specs.declared.Session.TheVariants.{Fresh}
 use Rattle.stream_laws.specs.Laws.{CanSend, KeepsFront}
 use Rattle.stream_laws.proofs.Lists.{begins_short, begins_take}
@@ -111,7 +111,7 @@ after_one items receiver start session few front fresh within got =
       kept = kept;
     }
 
-grown : (items : List (List ℕ)) (sessions : List Exchange) (session : Exchange) → CanSend items → KeepsFront items sessions → IsInOrder session
+grown : (items : List (List ℕ)) (sessions : List Exchange) (session : Exchange) → CanSend items → KeepsFront items sessions → IsStreamInOrder session
     → Begins session.sent (session_frames items (acked_by sessions)) → All (SaysAtMost (length (kept_by (sessions ++ session ∷ [])))) session.acks_sent
     → KeepsFront items (sessions ++ session ∷ [])
 grown items sessions session few keeps order sent acks =
@@ -129,7 +129,7 @@ grown items sessions session few keeps order sent acks =
     let acked = acked_more sessions session in
     record { prefix = prefix; acked = omega (arith, low, more, before, acked) }
 
-keeps_first : (items : List (List ℕ)) (sessions : List Exchange) → CanSend items → AreSessionsOf items sessions → All IsInOrder sessions → (k : ℕ) → k ≤ length sessions → KeepsFront items (take k sessions)
+keeps_first : (items : List (List ℕ)) (sessions : List Exchange) → CanSend items → AreSessionsOf items sessions → All IsStreamInOrder sessions → (k : ℕ) → k ≤ length sessions → KeepsFront items (take k sessions)
 keeps_first items sessions few are order zero within = record { prefix = (items, refl); acked = omega arith }
 keeps_first items sessions few are order (suc k) within =
     let below : k < length sessions = omega arith in
@@ -140,15 +140,15 @@ keeps_first items sessions few are order (suc k) within =
     let acks : All (SaysAtMost (length (kept_by (take k sessions ++ session ∷ [])))) session.acks_sent =
     subst (λ (es : List Exchange). All (SaysAtMost (length (kept_by es))) session.acks_sent) more (are.acks k below) in
     subst (KeepsFront items) (sym more ∙ ap (λ (n : ℕ). take n sessions) next)
-    (grown items (take k sessions) session few keeps (All-get_or IsInOrder sessions k no_exchange below order) (are.sent k below) acks)
+    (grown items (take k sessions) session few keeps (All-get_or IsStreamInOrder sessions k no_exchange below order) (are.sent k below) acks)
 
 -- Over a stream's sessions, the kept items are a prefix of all, and no more is acknowledged than is kept.
-pub sessions_keep_front : (items : List (List ℕ)) (sessions : List Exchange) → CanSend items → AreSessionsOf items sessions → All IsInOrder sessions → KeepsFront items sessions
+pub sessions_keep_front : (items : List (List ℕ)) (sessions : List Exchange) → CanSend items → AreSessionsOf items sessions → All IsStreamInOrder sessions → KeepsFront items sessions
 sessions_keep_front items sessions few are order =
     subst (KeepsFront items) (take_all (length sessions) sessions (omega arith)) (keeps_first items sessions few are order (length sessions) (omega arith))
 
 -- After a session that carried all its frames the receiver keeps all items of the stream.
-pub whole_session_brings_all : (items : List (List ℕ)) (sessions : List Exchange) (session : Exchange) → CanSend items → AreSessionsOf items sessions → All IsInOrder sessions
+pub whole_session_brings_all : (items : List (List ℕ)) (sessions : List Exchange) (session : Exchange) → CanSend items → AreSessionsOf items sessions → All IsStreamInOrder sessions
     → session.got ≡ session_frames items (acked_by sessions) → kept_by (sessions ++ session ∷ []) ≡ items
 whole_session_brings_all items sessions session few are order whole =
     let keeps = sessions_keep_front items sessions few are order in

@@ -9,9 +9,9 @@ use Rattle.std.proofs.lemmas.List.Elements.{All-append, All-cons, All-head, All-
 use Rattle.std.proofs.lemmas.List.Sums.{fold-append}
 use Rattle.std.proofs.lemmas.Option.{none-some, same_Some}
 use Rattle.stream_model.specs.Numbers.{number_in}
-use Rattle.stream_model.specs.Sender.{Sender, ack_answer, after_ack as after_ack_of, frame_at, frames_of, last_given, next_frame, session_frames}
+use Rattle.stream_model.specs.Sender.{Sender, ack_answer, sender_after_ack as after_ack_of, frame_at, frames_of, last_given, next_frame, session_frames}
 use Rattle.stream_model.specs.Receiver.{take_answer}
-use Rattle.stream_model.specs.World.{Answered, EndAnswer, Gave, Took, TookAck, World, after_carry, after_carry_ack, after_event, after_next, answer_to, answered_at, answers_from, answers_to, can_give_back, first_waiting, last_frame, new_world, world_after}
+use Rattle.stream_model.specs.World.{StreamAnswered, EndAnswer, Gave, Took, TookAck, World, after_carry, after_carry_ack, after_event, after_next, answer_to, answered_at, answers_from, answers_to, can_give_back, first_waiting, last_frame, new_world, world_after}
 use Rattle.stream_model.specs.declared.AckAnswer.{AckAnswer}
 use Rattle.stream_model.specs.declared.AckAnswer.TheVariants.{Newer, Old as AckOld, Bad as AckBad}
 use Rattle.stream_model.specs.declared.TakeAnswer.TheVariants.{Bad as TakeBad}
@@ -40,7 +40,7 @@ every_world_is_ordered items events few = kept_begins items (world_after items e
 
 -- No answer is bad
 
-abbrev IsGood : Answered → Type 0
+abbrev IsGood : StreamAnswered → Type 0
 IsGood given = (given.answer ≢ Took TakeBad) × (given.answer ≢ TookAck AckBad)
 
 good_of : (place : ℕ) (o : Option EndAnswer) → ((answer : EndAnswer) → o ≡ Some answer → (answer ≢ Took TakeBad) × (answer ≢ TookAck AckBad)) → All IsGood (answered_at place o)
@@ -125,10 +125,10 @@ events_done w [] keeps done = done
 events_done w (event ∷ events) keeps done =
     events_done (after_event w event) events (All-tail Keeps event events keeps) (event_done w event (All-head Keeps event events keeps) done)
 
-abbrev gave_none : ℕ → Answered
+abbrev gave_none : ℕ → StreamAnswered
 gave_none place = record { place = place; answer = Gave None }
 
-abbrev answered : ℕ → EndAnswer → Answered
+abbrev answered : ℕ → EndAnswer → StreamAnswered
 answered place answer = record { place = place; answer = answer }
 
 -- where `next_frame` answered None at a place: the world there has a sender that gave all
@@ -163,8 +163,8 @@ none_given place from w event found = by (answer_to w event) refl found
         → get_or (answered from answer ∷ []) k (gave_none place) ≡ gave_none place
         → (place ≡ from) × IsDone w
     one answer zero below e is =
-        let same_place : from ≡ place = ap (λ (given : Answered). given.place) is in
-        let same_answer : answer ≡ Gave None = ap (λ (given : Answered). given.answer) is in
+        let same_place : from ≡ place = ap (λ (given : StreamAnswered). given.place) is in
+        let same_answer : answer ≡ Gave None = ap (λ (given : StreamAnswered). given.answer) is in
         (sym same_place, gave event (e ∙ ap (λ (a : EndAnswer). Some a) same_answer))
     one answer (suc k) below e is = absurd (omega arith)
 

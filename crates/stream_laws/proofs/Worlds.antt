@@ -8,7 +8,7 @@ use Rattle.std.proofs.lemmas.Bool.{and_parts, ltb-true, false≢true}
 use Rattle.stream_model.specs.Numbers.{SaysAtMost, number_frame}
 use Rattle.stream_model.specs.Sender.{ack_answer, ack_taken, back_at, next_frame, session_frames}
 use Rattle.stream_model.specs.Receiver.{take_answer, taken}
-use Rattle.stream_model.specs.World.{World, after_ack, after_carry, after_carry_ack, after_event, after_give_back, after_loss, after_next, can_give_back, first_waiting, new_world}
+use Rattle.stream_model.specs.World.{World, stream_after_ack, after_carry, after_carry_ack, after_event, after_give_back, after_loss, after_next, can_give_back, first_waiting, new_world}
 use Rattle.stream_model.specs.declared.Place.{Place}
 use Rattle.stream_model.specs.declared.AckAnswer.TheVariants.{Bad as AckBad}
 use Rattle.stream_model.specs.declared.TakeAnswer.TheVariants.{Bad as TakeBad}
@@ -187,7 +187,7 @@ carry_good items w few held frame e =
     one.good
 
 -- Ack
-ack_held : (items : List (List ℕ)) (w : World) → IsHeld items w → IsHeld items (after_ack w)
+ack_held : (items : List (List ℕ)) (w : World) → IsHeld items w → IsHeld items (stream_after_ack w)
 ack_held items w held = record {
   all = held.all;
   acked = held.acked;

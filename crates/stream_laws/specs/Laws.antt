@@ -3,10 +3,10 @@ use Rattle.std.specs.Prelude.{◌≡◌, ◌≢◌, ℕ, ◌+◌, ◌-◌, ◌<�
 use Rattle.std.specs.List.{All, Contains}
 use Rattle.stream_model.specs.Fronts.{Begins}
 use Rattle.stream_model.specs.Numbers.{SaysAtMost, largest_in}
-use Rattle.stream_model.specs.Sender.{Sender, ack_taken, frames_of, given_back, most_items, next_frame, one_given, session_frames}
+use Rattle.stream_model.specs.Sender.{Sender, ack_taken, frames_of, sender_given_back, most_items, next_frame, one_given, session_frames}
 use Rattle.stream_model.specs.Receiver.{Receiver, taken}
-use Rattle.stream_model.specs.World.{Answered, Gave, Took, TookAck, World, answers_to, world_after}
-use Rattle.stream_model.specs.Resumed.{AreSessionsOf, Exchange, IsInOrder, acked_by, kept_by}
+use Rattle.stream_model.specs.World.{StreamAnswered, Gave, Took, TookAck, World, answers_to, world_after}
+use Rattle.stream_model.specs.Resumed.{AreSessionsOf, Exchange, IsStreamInOrder, acked_by, kept_by}
 use Rattle.stream_model.specs.declared.AckAnswer.TheVariants.{Bad as AckBad}
 use Rattle.stream_model.specs.declared.TakeAnswer.TheVariants.{Bad as TakeBad}
 use Rattle.stream_model.specs.declared.Session.TheVariants.{Fresh}
@@ -25,8 +25,8 @@ pub record IsOrdered (items : List (List ℕ)) (world : World) : Type 0 where
   pub acked : world.sender.acked ≤ length world.receiver.items
 
 -- neither `take` nor `take_ack` answered Bad
-abbrev pub NoneIsBad : List Answered → Type 0
-NoneIsBad answers = All (λ (given : Answered). (given.answer ≢ Took TakeBad) × (given.answer ≢ TookAck AckBad)) answers
+abbrev pub NoneIsBad : List StreamAnswered → Type 0
+NoneIsBad answers = All (λ (given : StreamAnswered). (given.answer ≢ Took TakeBad) × (given.answer ≢ TookAck AckBad)) answers
 
 -- after every list of events
 abbrev pub EveryWorldIsOrdered : Type 0
@@ -57,7 +57,7 @@ NextFollows = (sender : Sender) (frame : List ℕ) → next_frame sender ≡ Som
 
 -- a frame that is given back counts as not given
 abbrev pub BackIsUngiven : Type 0
-BackIsUngiven = (sender : Sender) → given_back (one_given sender) ≡ record sender { before = None }
+BackIsUngiven = (sender : Sender) → sender_given_back (one_given sender) ≡ record sender { before = None }
 
 -- where no frame comes next, all of the session were given
 abbrev pub NoneIsAll : Type 0
@@ -90,9 +90,9 @@ pub record KeepsFront (items : List (List ℕ)) (sessions : List Exchange) : Typ
   pub acked : acked_by sessions ≤ length (kept_by sessions)
 
 abbrev pub SessionsKeepFront : Type 0
-SessionsKeepFront = (items : List (List ℕ)) (sessions : List Exchange) → CanSend items → AreSessionsOf items sessions → All IsInOrder sessions → KeepsFront items sessions
+SessionsKeepFront = (items : List (List ℕ)) (sessions : List Exchange) → CanSend items → AreSessionsOf items sessions → All IsStreamInOrder sessions → KeepsFront items sessions
 
 -- after a session that carried everything all items are kept
 abbrev pub WholeSessionBringsAll : Type 0
-WholeSessionBringsAll = (items : List (List ℕ)) (sessions : List Exchange) (session : Exchange) → CanSend items → AreSessionsOf items sessions → All IsInOrder sessions
+WholeSessionBringsAll = (items : List (List ℕ)) (sessions : List Exchange) (session : Exchange) → CanSend items → AreSessionsOf items sessions → All IsStreamInOrder sessions
     → session.got ≡ session_frames items (acked_by sessions) → kept_by (sessions ++ session ∷ []) ≡ items

@@ -1,7 +1,7 @@
 -- Worked examples: two items, `a` and `b`, over sessions that are lost.
 use Rattle.std.specs.Prelude.{◌≡◌, ℕ, List, [], ◌∷◌, Some, None, map}
 use Rattle.stream_model.specs.Sender.{last_given, next_frame}
-use Rattle.stream_model.specs.World.{Answered, EndAnswer, Gave, Took, TookAck, answers_to, world_after}
+use Rattle.stream_model.specs.World.{StreamAnswered, EndAnswer, Gave, Took, TookAck, answers_to, world_after}
 use Rattle.stream_model.specs.declared.AckAnswer.TheVariants.{Newer, Old as OldAck, Bad as BadAck}
 use Rattle.stream_model.specs.declared.TakeAnswer.TheVariants.{Start, Kept, Old, Bad}
 use Rattle.stream_model.specs.declared.StreamEvent.{StreamEvent}
@@ -23,7 +23,7 @@ abbrev pub number : ℕ → List ℕ
 number n = n ∷ 0 ∷ 0 ∷ 0 ∷ []
 
 abbrev pub answers : List StreamEvent → List EndAnswer
-answers events = map (λ (given : Answered). given.answer) (answers_to both events)
+answers events = map (λ (given : StreamAnswered). given.answer) (answers_to both events)
 
 -- the first session carries `a` and is lost before an acknowledgement: the second starts at 0 again, and `a` is dropped
 abbrev pub lost : List StreamEvent

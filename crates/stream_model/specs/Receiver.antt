@@ -33,13 +33,13 @@ abbrev pub take_answer : Receiver → List ℕ → TakeAnswer
 take_answer receiver frame = answer_in receiver.session (length receiver.items) frame
 
 -- an item of a number joins, where it is the next that the receiver lacks
-abbrev pub joined : List (List ℕ) → ℕ → List ℕ → List (List ℕ)
-joined items number frame = if number == length items then items ++ frame ∷ [] else items
+abbrev pub stream_joined : List (List ℕ) → ℕ → List ℕ → List (List ℕ)
+stream_joined items number frame = if number == length items then items ++ frame ∷ [] else items
 
 -- the receiver after it took a frame
 abbrev pub taken_in : Session → List (List ℕ) → List ℕ → Receiver
 taken_in Fresh items frame = record { items = items; session = session_from (length items) (number_in frame) }
-taken_in (At number) items frame = record { items = joined items number frame; session = At (number + 1) }
+taken_in (At number) items frame = record { items = stream_joined items number frame; session = At (number + 1) }
 taken_in Spoiled items frame = record { items = items; session = Spoiled }
 
 abbrev pub taken : Receiver → List ℕ → Receiver

@@ -46,6 +46,6 @@ pub record IsResumed (traffic : List (List ℕ)) (sessions : List Exchange) (ite
   pub whole : items ≡ traffic
 
 -- what came out of each lane in a session is a part, from the front, of what it was given
-pub record IsInOrder (session : Exchange) : Type 0 where
+pub record IsStreamInOrder (session : Exchange) : Type 0 where
   pub items : Begins session.got session.sent
   pub acks : Begins session.acks_got session.acks_sent

@@ -48,12 +48,12 @@ abbrev pub one_given : Sender → Sender
 one_given sender = record sender { place = next_place sender.start sender.place; before = Some sender.place }
 
 -- the sender after that answer of `next_frame`
-abbrev pub after_answer : Sender → Option (List ℕ) → Sender
-after_answer sender (Some frame) = one_given sender
-after_answer sender None = sender
+abbrev pub sender_after_answer : Sender → Option (List ℕ) → Sender
+sender_after_answer sender (Some frame) = one_given sender
+sender_after_answer sender None = sender
 
 abbrev pub after_next_frame : Sender → Sender
-after_next_frame sender = after_answer sender (next_frame sender)
+after_next_frame sender = sender_after_answer sender (next_frame sender)
 
 -- the frame that can be given back
 abbrev pub last_given : Sender → Option (List ℕ)
@@ -65,8 +65,8 @@ back_at sender (Some place) = record sender { place = place; before = None }
 back_at sender None = sender
 
 -- a frame that is given back counts as not given
-abbrev pub given_back : Sender → Sender
-given_back sender = back_at sender sender.before
+abbrev pub sender_given_back : Sender → Sender
+sender_given_back sender = back_at sender sender.before
 
 -- what comes of an acknowledgement that says a number, or none
 abbrev pub number_answer : Sender → Option ℕ → AckAnswer
@@ -77,13 +77,13 @@ abbrev pub ack_answer : Sender → List ℕ → AckAnswer
 ack_answer sender frame = number_answer sender (number_in frame)
 
 -- the sender after that answer to a number
-abbrev pub after_ack : Sender → ℕ → AckAnswer → Sender
-after_ack sender number Newer = record sender { acked = number; before = None }
-after_ack sender number Old = sender
-after_ack sender number Bad = sender
+abbrev pub sender_after_ack : Sender → ℕ → AckAnswer → Sender
+sender_after_ack sender number Newer = record sender { acked = number; before = None }
+sender_after_ack sender number Old = sender
+sender_after_ack sender number Bad = sender
 
 abbrev pub ack_taken : Sender → List ℕ → Sender
-ack_taken sender frame = after_ack sender (unwrap_or (number_in frame) 0) (ack_answer sender frame)
+ack_taken sender frame = sender_after_ack sender (unwrap_or (number_in frame) 0) (ack_answer sender frame)
 
 -- a new session starts at the acknowledged number
 abbrev pub sender_renewed : Sender → Sender

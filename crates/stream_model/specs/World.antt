@@ -1,6 +1,6 @@
 -- The world of two ends: what was given to each direction in this session, and how much of it was carried.
 use Rattle.std.specs.Prelude.{Bool, ℕ, ◌+◌, ◌-◌, ◌&&◌, nat_lt, if◌then◌else◌, List, [], ◌∷◌, ◌++◌, length, take, fold, slice_get, Option, Some, None, is_some, option_map}
-use Rattle.stream_model.specs.Sender.{Sender, ack_answer, ack_taken, after_answer, given_back, new_sender, next_frame, sender_renewed}
+use Rattle.stream_model.specs.Sender.{Sender, ack_answer, ack_taken, sender_after_answer, sender_given_back, new_sender, next_frame, sender_renewed}
 use Rattle.stream_model.specs.Receiver.{Receiver, ack_frame, new_receiver, receiver_renewed, take_answer, taken}
 use Rattle.stream_model.specs.declared.AckAnswer.{AckAnswer}
 use Rattle.stream_model.specs.declared.TakeAnswer.{TakeAnswer}
@@ -66,16 +66,16 @@ can_give_back world = is_some world.sender.before && nat_lt world.forward.carrie
 
 -- the world after each event, which changes nothing where it can't be made
 abbrev pub after_next : World → Option (List ℕ) → World
-after_next world frame = record world { sender = after_answer world.sender frame; forward = with_any world.forward frame }
+after_next world frame = record world { sender = sender_after_answer world.sender frame; forward = with_any world.forward frame }
 
 abbrev pub after_give_back : World → World
-after_give_back world = record world { sender = given_back world.sender; forward = without_last world.forward }
+after_give_back world = record world { sender = sender_given_back world.sender; forward = without_last world.forward }
 
 abbrev pub after_carry : World → Option (List ℕ) → World
 after_carry world frame = record world { receiver = taken_any world.receiver frame; forward = carried_any world.forward frame }
 
-abbrev pub after_ack : World → World
-after_ack world = record world { back = with_frame world.back (ack_frame world.receiver) }
+abbrev pub stream_after_ack : World → World
+stream_after_ack world = record world { back = with_frame world.back (ack_frame world.receiver) }
 
 abbrev pub after_carry_ack : World → Option (List ℕ) → World
 after_carry_ack world frame = record world { sender = ack_taken_any world.sender frame; back = carried_any world.back frame }
@@ -87,7 +87,7 @@ abbrev pub after_event : World → StreamEvent → World
 after_event world Next = after_next world (next_frame world.sender)
 after_event world GiveBack = if can_give_back world then after_give_back world else world
 after_event world Carry = after_carry world (first_waiting world.forward)
-after_event world Ack = after_ack world
+after_event world Ack = stream_after_ack world
 after_event world CarryAck = after_carry_ack world (first_waiting world.back)
 after_event world Lose = after_loss world
 
@@ -111,19 +111,19 @@ answer_to world CarryAck = option_map (λ frame. TookAck (ack_answer world.sende
 answer_to world Lose = None
 
 -- an answer, with the place of its event
-pub record Answered : Type 0 where
+pub record StreamAnswered : Type 0 where
   pub place : ℕ
   pub answer : EndAnswer
 
-abbrev pub answered_at : ℕ → Option EndAnswer → List Answered
+abbrev pub answered_at : ℕ → Option EndAnswer → List StreamAnswered
 answered_at place (Some answer) = record { place = place; answer = answer } ∷ []
 answered_at place None = []
 
 -- the answers to events from a place on
-abbrev pub answers_from : ℕ → World → List StreamEvent → List Answered
+abbrev pub answers_from : ℕ → World → List StreamEvent → List StreamAnswered
 answers_from place world [] = []
 answers_from place world (event ∷ events) = answered_at place (answer_to world event) ++ answers_from (place + 1) (after_event world event) events
 
 -- the answers to all events
-abbrev pub answers_to : List (List ℕ) → List StreamEvent → List Answered
+abbrev pub answers_to : List (List ℕ) → List StreamEvent → List StreamAnswered
 answers_to items events = answers_from 0 (new_world items) events

@@ -4,8 +4,8 @@ use Rattle.std.proofs.lemmas.List.{length-map}
 use Rattle.std.proofs.lemmas.Option.{slice_get_past}
 use Rattle.std.specs.Prelude.{slice_get, MatchBool}
 use Rattle.table_lane.specs.declared.parts.MovePart.{MovePart}
-use Rattle.table_lane.specs.Words.{header_of}
-use Rattle.table_lane.specs.Knowledge.{taken, posted_loaded, frame_taken}
+use Rattle.table_lane.specs.Words.{table_header_of}
+use Rattle.table_lane.specs.Knowledge.{table_taken, posted_loaded, frame_taken}
 use Rattle.table_lane.specs.declared.mover.MoveAnswer.{MoveAnswer}
 use Rattle.table_lane.specs.declared.mover.MoveAnswer.TheVariants.{Took, Header, Flag, Idle}
 use Rattle.table_lane.specs.MoveChoice.{waiting, open_moves, after_move, Makes, MakesFirst, Moves}
@@ -23,7 +23,7 @@ first_is [] seen answer after some makes = absurd (omega arith)
 first_is (move ∷ moves) seen answer after some makes = let made = makes move refl in (made, ap (λ (p : MovePart). p.posted) made.1 ∙ keeps_load seen move)
 
 -- If the choice is the load and the header loaded isn't new, the mover makes its first open move, if there is one.
-pub makes_first : (before seen after : MovePart) (found choice : ℕ) (answer : MoveAnswer) → seen ≡ posted_loaded before found → eqb found (header_of (taken before)) ≡ false
+pub makes_first : (before seen after : MovePart) (found choice : ℕ) (answer : MoveAnswer) → seen ≡ posted_loaded before found → eqb found (table_header_of (table_taken before)) ≡ false
     → length (open_moves before) ≤ choice % (length (open_moves before) + 1) → 0 < length (open_moves before) → ((move : MoveAnswer) → slice_get (open_moves seen) 0 ≡ Some move → Makes seen move answer after)
     → Moves before choice answer after
 makes_first before seen after found choice answer loaded old past some makes =
@@ -33,7 +33,7 @@ makes_first before seen after found choice answer loaded old past some makes =
     let same : after.posted ≡ found = first.1 in
     let P : ℕ → Type 0 = λ f.
     let seen_then : MovePart = posted_loaded before f in
-    MatchBool (eqb f (header_of (taken before))) ((answer ≡ Took (taken before)) × ((frame : List ℕ) × (after ≡ frame_taken seen_then frame))) (MakesFirst moves seen_then answer after) in
+    MatchBool (eqb f (table_header_of (table_taken before))) ((answer ≡ Took (table_taken before)) × ((frame : List ℕ) × (after ≡ frame_taken seen_then frame))) (MakesFirst moves seen_then answer after) in
     let at_found : P found = rw old first.0 in
     rw none (subst P (sym same) at_found)
 

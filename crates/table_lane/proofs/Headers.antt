@@ -2,7 +2,7 @@
 use Rattle.std.proofs.Common.{◌≡◌, ◌≢◌, ℕ, zero, suc, ◌+◌, ◌-◌, ◌%◌, ◌<◌, ◌≤◌, Bool, true, false, List, [], ◌∷◌, ◌++◌, length, set, get_or, refl, sym, ap, ◌∙◌, inl, inr, arith, mod-lt, mod-eq_of_lt, get_or-set_same, get_or-set_other, if◌then◌else◌, nat_lt}
 use native.Mathlib.Nat.{add-mod_right}
 use Rattle.std.proofs.lemmas.Bool.{lt-ltb, le-ltb, cases_eq, cases_lt, cases_Bool, cond-true, cond-false}
-use Rattle.table_lane.specs.Words.{header_of}
+use Rattle.table_lane.specs.Words.{table_header_of}
 use Rattle.table_lane.specs.ShownLane.{header_stands, HeadersStand}
 use Rattle.table_lane.proofs.LaneLaws.{other_number}
 
@@ -99,32 +99,32 @@ apart N n k other older near far e = elim (cases_lt n k) [
 
 -- And it is so after the header of a held entry is stored.
 pub header_stored : (N : ℕ) (headers : List ℕ) (flagged j n : ℕ) (stored : List Bool) → n ≡ flagged + j → j < length stored → length stored < N → length headers ≡ N → HeadersStand N headers flagged stored
-    → HeadersStand N (set headers (n % N) (header_of n)) flagged (set stored j true)
+    → HeadersStand N (set headers (n % N) (table_header_of n)) flagged (set stored j true)
 header_stored N headers flagged j n stored is within few long h =
     let small : n % N < N = mod-lt n (omega arith) in
     let itself : header_stands flagged (set stored j true) n ≡ true = stands_itself flagged j n stored is within in
     let unlike : (k : ℕ) → header_stands flagged (set stored j true) k ≡ false → k ≢ n = λ k none e. let stands : header_stands flagged (set stored j true) k ≡ true = ap (header_stands flagged (set stored j true)) e ∙ itself in cc in
     record {
       newest = λ k stands none. elim (cases_eq k n) [
-        | inl same ↦ ap (λ (i : ℕ). get_or (set headers (n % N) (header_of n)) (i % N) 0) same ∙ get_or-set_same headers (n % N) (header_of n) 0 (omega arith) ∙ ap header_of (sym same)
+        | inl same ↦ ap (λ (i : ℕ). get_or (set headers (n % N) (table_header_of n)) (i % N) 0) same ∙ get_or-set_same headers (n % N) (table_header_of n) 0 (omega arith) ∙ ap table_header_of (sym same)
         | inr other ↦
             let older : k + N ≢ n = unlike (k + N) none in
             let stood : header_stands flagged stored k ≡ true = sym (others_stand flagged j n stored k is other) ∙ stands in
             let none_before : header_stands flagged stored (k + N) ≡ false = sym (others_stand flagged j n stored (k + N) is older) ∙ none in
             let high = stands_within flagged stored k stood in
             let low = none_below flagged stored (k + N) none_before in
-            get_or-set_other headers (n % N) (k % N) (header_of n) 0 (apart N n k other older (omega arith) (omega arith)) ∙ h.newest k stood none_before
+            get_or-set_other headers (n % N) (k % N) (table_header_of n) 0 (apart N n k other older (omega arith) (omega arith)) ∙ h.newest k stood none_before
       ];
       never = λ position below none.
           let other : position ≢ n = unlike position none in
           let none_before : header_stands flagged stored position ≡ false = sym (others_stand flagged j n stored position is other) ∙ none in
           let low = none_below flagged stored position none_before in
           let at : position % N ≡ position = mod-eq_of_lt below in
-          get_or-set_other headers (n % N) position (header_of n) 0 (λ e. apart N n position other (λ f. omega arith) (omega arith) (omega arith) (at ∙ e)) ∙ h.never position below none_before;
+          get_or-set_other headers (n % N) position (table_header_of n) 0 (λ e. apart N n position other (λ f. omega arith) (omega arith) (omega arith) (at ∙ e)) ∙ h.never position below none_before;
     }
 
 -- the header of a flagged entry is whole, while the mover holds none of its position
-pub header_whole : (N : ℕ) (headers : List ℕ) (flagged : ℕ) (stored : List Bool) (n : ℕ) → n < flagged → flagged + length stored ≤ n + N → HeadersStand N headers flagged stored → get_or headers (n % N) 0 ≡ header_of n
+pub header_whole : (N : ℕ) (headers : List ℕ) (flagged : ℕ) (stored : List Bool) (n : ℕ) → n < flagged → flagged + length stored ≤ n + N → HeadersStand N headers flagged stored → get_or headers (n % N) 0 ≡ table_header_of n
 header_whole N headers flagged stored n low near h =
     h.newest n (stands_below flagged stored n low) (elim (cases_Bool (header_stands flagged stored (n + N))) [
       | inl stands ↦ let within = stands_within flagged stored (n + N) stands in absurd (omega arith)

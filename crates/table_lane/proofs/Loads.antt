@@ -3,9 +3,9 @@ use Rattle.std.proofs.Common.{◌≡◌, ℕ, ◌+◌, ◌%◌, ◌^◌, ◌<◌
 use Rattle.table_lane.specs.Loads.{LoadsAreNoSteps, SeenCutsAreMade, CutStays}
 use Rattle.table_lane.specs.Rule.{Sitter}
 use Rattle.table_lane.specs.LaneNames.{done}
-use Rattle.table_lane.specs.Words.{header_of, cut_word}
-use Rattle.table_lane.specs.Knowledge.{head, free_by, index_loaded, slot_claimed, taken, posted_loaded, frame_taken, flag_loaded, frame_found}
-use Rattle.table_lane.specs.Views.{Bytes, LaneView, the_cut, the_move, the_recv, the_send, with_move, with_recv, with_send}
+use Rattle.table_lane.specs.Words.{table_header_of, cut_word}
+use Rattle.table_lane.specs.Knowledge.{head, free_by, index_loaded, slot_claimed, table_taken, posted_loaded, frame_taken, flag_loaded, frame_found}
+use Rattle.table_lane.specs.Views.{TableBytes, LaneView, the_cut, the_move, the_recv, the_send, with_move, with_recv, with_send}
 
 -- a link word that shows a cut is that of a cut
 cut_by_word : (cut : Bool) → (if cut then cut_word else 0) ≡ cut_word → cut ≡ true
@@ -47,14 +47,14 @@ took_keeps before after other false Took took others is cut = view_keeps before 
 abbrev MoverTook : Sitter → ℕ → Sitter → Type 0
 MoverTook before found after =
     let part = the_move before.0 in
-    (frame : Bytes)
-    × (after ≡ (with_move before.0 (frame_taken (posted_loaded part found) frame), (taken part % part.entries, Some frame) ∷ before.1))
-    × (taken part < 2 ^ 62) × (length part.held + 2 ≤ part.entries)
+    (frame : TableBytes)
+    × (after ≡ (with_move before.0 (frame_taken (posted_loaded part found) frame), (table_taken part % part.entries, Some frame) ∷ before.1))
+    × (table_taken part < 2 ^ 62) × (length part.held + 2 ≤ part.entries)
 
 abbrev ReceiverTook : Sitter → ℕ → Sitter → Type 0
 ReceiverTook before found after =
     let part = the_recv before.0 in
-    (frame : Bytes)
+    (frame : TableBytes)
     × (after ≡ (with_recv before.0 (frame_found (flag_loaded part found) frame), (length part.got % part.entries, Some frame) ∷ before.1))
     × (length part.got < 2 ^ 62)
 
@@ -68,7 +68,7 @@ cut_stays = record {
   stores_posted = λ before found after tells cut. view_keeps before after _ refl tells cut;
   sees_posted = λ before found after tells cut.
       let part = the_move before.0 in
-      took_keeps before after (with_move before.0 (posted_loaded part found), before.1) (found == header_of (taken part)) (MoverTook before found after) (λ took. view_keeps before after _ refl took.1 cut) refl tells.0 cut;
+      took_keeps before after (with_move before.0 (posted_loaded part found), before.1) (found == table_header_of (table_taken part)) (MoverTook before found after) (λ took. view_keeps before after _ refl took.1 cut) refl tells.0 cut;
   stores_header = λ word before found after tells cut. view_keeps before after _ refl tells cut;
   stores_flag = λ before found after tells cut. view_keeps before after _ refl tells cut;
   sees_flag = λ before found after tells cut.

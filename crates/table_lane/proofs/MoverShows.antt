@@ -5,12 +5,12 @@ use Rattle.std.proofs.lemmas.Bool.{lt-ltb, le-ltb, cases_lt}
 use Rattle.std.proofs.lemmas.List.{length_push, get_or_push, get_or_append_left, length-map, length-drop, get_or-drop, map-set}
 use Rattle.std.proofs.Math.Seq.{map-set_same}
 use mathlib.Core.Option.{some}
-use Rattle.table_lane.specs.LaneNames.{Entry, entry_of_frame, GoesDown, Write, Data, Flag, Bell, Slot, blank_slot, Lane, slot_of, ring_with, with_flags, flags_of, done, entry_of, data_of}
-use Rattle.table_lane.specs.Words.{header_of}
-use Rattle.table_lane.specs.Views.{Bytes}
+use Rattle.table_lane.specs.LaneNames.{Entry, entry_of_frame, GoesDown, Write, Data, Flag, Bell, Slot, blank_slot, Lane, lane_slot_of, ring_with, with_flags, flags_of, done, entry_of, data_of}
+use Rattle.table_lane.specs.Words.{table_header_of}
+use Rattle.table_lane.specs.Views.{TableBytes}
 use Rattle.table_lane.specs.Borders.{Borders, out, full}
-use Rattle.table_lane.specs.ShownLane.{in_flight, PostedStand, HeadersStand, RingStands, HeldStand}
-use Rattle.table_lane.specs.LaneNames.{Land, Runs}
+use Rattle.table_lane.specs.ShownLane.{table_in_flight, PostedStand, HeadersStand, RingStands, HeldStand}
+use Rattle.table_lane.specs.LaneNames.{Land, LaneRuns}
 use Rattle.table_lane.specs.LaneSteps.{header_steps, flag_steps}
 use Rattle.table_lane.specs.Kinds.{Takes, StoresHeader, StoresFlag}
 use Rattle.table_lane.proofs.LaneLaws.{same_number}
@@ -22,7 +22,7 @@ use Rattle.table_lane.proofs.Order.{in_order}
 use Rattle.table_lane.proofs.SenderShows.{borders_in, entry_is_frame}
 
 -- a posted header that shows entry n tells that it was sent
-pub sent_if_posted : (N : ℕ) (posted : List ℕ) (n sent : ℕ) → 0 < N → N ≤ 65535 → n ≤ sent → PostedStand N posted sent → get_or posted (n % N) 0 ≡ header_of n → n < sent
+pub sent_if_posted : (N : ℕ) (posted : List ℕ) (n sent : ℕ) → 0 < N → N ≤ 65535 → n ≤ sent → PostedStand N posted sent → get_or posted (n % N) 0 ≡ table_header_of n → n < sent
 sent_if_posted N posted n sent some_slot small low h shown = elim (cases_lt n sent) [
   | inl below ↦ below
   | inr above ↦ elim (cases_lt n N) [
@@ -35,7 +35,7 @@ sent_if_posted N posted n sent some_slot small low h shown = elim (cases_lt n se
         let old : ℕ = n - N in
         let back : old + N ≡ n = omega arith in
         let at : old % N ≡ n % N = sym (add-mod_right old N) ∙ ap (λ (k : ℕ). k % N) back in
-        let was : get_or posted (old % N) 0 ≡ header_of old = h.newest old (omega arith) (omega arith) in
+        let was : get_or posted (old % N) 0 ≡ table_header_of old = h.newest old (omega arith) (omega arith) in
         let same : get_or posted (old % N) 0 ≡ get_or posted (n % N) 0 = ap (λ (k : ℕ). get_or posted k 0) at in
         let versions : old % 2 ^ 32 ≡ n % 2 ^ 32 = omega arith in
         let one : old ≡ n = same_number (2 ^ 32) old n (omega arith) (omega arith) versions in
@@ -48,7 +48,7 @@ pub takes : Takes
 takes N m slots n is shown h =
     let o = in_order N m slots h in
     let k = borders_in m in
-    let frame : Bytes = get_or m.send.sent n [] in
+    let frame : TableBytes = get_or m.send.sent n [] in
     let small = h.of.small in
     let below : n < length m.send.sent = sent_if_posted N m.words.posted n (length m.send.sent) (omega (arith, o.two)) h.of.small (omega (arith, o.taken)) h.posted shown in
     let more : length (m.mover.held ++ frame ∷ []) ≡ length m.mover.held + 1 = length_push m.mover.held frame in
@@ -126,11 +126,11 @@ stores_header N m slots j n is held left h =
     sym (length-map m.words.headers (λ (header : ℕ). header % 2 ^ 32)) ∙ sym (ap length h.ring.versions) ∙ length-map lane.ring (λ (s : Slot). s.ver) ∙ positions ∙ entries in
     let two : 2 ≤ lane.entries = h.law.2.room.two_entries in
     let within : n % lane.entries < length lane.ring = let small : n % lane.entries < lane.entries = mod-lt n (omega arith) in omega arith in
-    let slot : Slot = with_fields (slot_of lane n) n entry (fields_of entry) in
-    let version : slot.ver ≡ header_of n % 2 ^ 32 = fields_give_version (slot_of lane n) n entry ∙ sym (mod-mod n (2 ^ 32)) ∙ sym (add-mod_left (2 ^ 32) (n % 2 ^ 32)) in
+    let slot : Slot = with_fields (lane_slot_of lane n) n entry (fields_of entry) in
+    let version : slot.ver ≡ table_header_of n % 2 ^ 32 = fields_give_version (lane_slot_of lane n) n entry ∙ sym (mod-mod n (2 ^ 32)) ∙ sym (add-mod_left (2 ^ 32) (n % 2 ^ 32)) in
     let next : Lane = record lane { flight = split.0 ++ split.1; ring = ring_with lane n slot } in
-    let runs : Runs (header_steps n entry) lane next =
-    subst (λ (ds : List Write). Runs (map Land ds) lane next) (sym (data_is_fields n entry)) (land_fields (fields_of entry) lane n split.0 split.1 front within) in (
+    let runs : LaneRuns (header_steps n entry) lane next =
+    subst (λ (ds : List Write). LaneRuns (map Land ds) lane next) (sym (data_is_fields n entry)) (land_fields (fields_of entry) lane n split.0 split.1 front within) in (
       next,
       runs,
       record {
@@ -146,8 +146,8 @@ stores_header N m slots j n is held left h =
         };
         posted = h.posted;
         headers = header_stored N m.words.headers m.mover.flagged j n m.mover.stored is (omega arith) (omega (arith, o.taken, o.sent, o.claimed)) words_long h.headers;
-        ring = subst (λ (at : ℕ). RingStands next.ring (set m.words.headers (n % at) (header_of n)) m.words.flags) entries
-            (ring_stores_header lane.ring m.words.headers m.words.flags (n % lane.entries) slot (header_of n) version (fields_keep_flags (fields_of entry) (slot_of lane n) n entry) h.ring);
+        ring = subst (λ (at : ℕ). RingStands next.ring (set m.words.headers (n % at) (table_header_of n)) m.words.flags) entries
+            (ring_stores_header lane.ring m.words.headers m.words.flags (n % lane.entries) slot (table_header_of n) version (fields_keep_flags (fields_of entry) (lane_slot_of lane n) n entry) h.ring);
         index = h.index;
         link = h.link;
         seen_cut = h.seen_cut;
@@ -173,20 +173,20 @@ stores_flag N m slots frame held stored has marked h =
     let is_frame : entry ≡ entry_of_frame (get_or m.send.sent n []) = ap (λ es. get_or es n GoesDown) h.parts.entries ∙ entry_is_frame m.send.sent n below in
     let same_frame : frame ≡ get_or m.send.sent n [] =
     ap (λ fs. get_or fs 0 []) (sym has) ∙ h.holding.frames 0 (omega arith) ∙ ap (λ (i : ℕ). get_or m.send.sent i []) (let e : n + 0 ≡ n = omega arith in e) in
-    let rest : List Write = in_flight (suc n) stored (drop (suc n) lane.sent) in
+    let rest : List Write = table_in_flight (suc n) stored (drop (suc n) lane.sent) in
     let below_lane : n < length lane.sent = omega arith in
     let front : lane.flight ≡ Flag n ∷ Bell ∷ rest =
-    h.parts.flight ∙ (λ i. in_flight n (marked i) (drop-cons lane.sent n GoesDown below_lane i)) in
+    h.parts.flight ∙ (λ i. table_in_flight n (marked i) (drop-cons lane.sent n GoesDown below_lane i)) in
     let entries = h.of.entries in
     let whole = h.parts.whole in
-    let slot : Slot = with_flags (slot_of lane n) (flags_of entry) in
+    let slot : Slot = with_flags (lane_slot_of lane n) (flags_of entry) in
     let next : Lane = record lane { flight = rest; ring = ring_with lane n slot; flagged = lane.flagged + 1 } in
     let after : Borders = record k { flagged = n + 1; taken = n + 1 + length held } in
     let same_taken : after.taken ≡ k.taken = omega arith in
     let low : m.back.freed ≤ n = omega arith in
     let l0 : nat_lt n k.cleared ≡ false = le-ltb n k.cleared (omega arith) in
     let l1 : nat_lt n k.looked ≡ false = le-ltb n k.looked (omega arith) in
-    let runs : Runs (flag_steps n) lane next = land_flag_and_bell lane n rest front in (
+    let runs : LaneRuns (flag_steps n) lane next = land_flag_and_bell lane n rest front in (
       next,
       runs,
       record {
@@ -195,7 +195,7 @@ stores_flag N m slots frame held stored has marked h =
         parts = record {
           entries = h.parts.entries;
           whole = omega arith;
-          flight = ap (λ (i : ℕ). in_flight i stored (drop i lane.sent)) (let e : suc n ≡ n + 1 = omega arith in e);
+          flight = ap (λ (i : ℕ). table_in_flight i stored (drop i lane.sent)) (let e : suc n ≡ n + 1 = omega arith in e);
           copied = h.parts.copied;
           stage = h.parts.stage;
           given_back = h.parts.given_back;
@@ -217,6 +217,6 @@ stores_flag N m slots frame held stored has marked h =
         room = h.room;
         places = slot_changes N k after m.send.sent m.send.sent slots n (some (Some frame)) (omega (arith, o.two)) h.places refl low (omega arith)
             (λ j other. let past = moves_past j n other in λ i. slot_by (nat_lt j k.cleared) (nat_lt j k.looked) (past i) (nat_lt j (same_taken i)) (nat_lt j k.sent) (nat_lt j k.claimed) (full m.send.sent j))
-            (slot_is after m.send.sent n l0 l1 (lt-ltb n (n + 1) (omega arith)) refl refl refl ∙ ap (λ (f : Bytes). some (Some f)) (sym same_frame));
+            (slot_is after m.send.sent n l0 l1 (lt-ltb n (n + 1) (omega arith)) refl refl refl ∙ ap (λ (f : TableBytes). some (Some f)) (sym same_frame));
       },
     )

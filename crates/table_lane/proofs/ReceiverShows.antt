@@ -5,12 +5,12 @@ use Rattle.std.proofs.lemmas.Bool.{lt-ltb, le-ltb, cases_lt}
 use Rattle.std.proofs.Math.ListN.{get_or-map}
 use Rattle.std.proofs.Math.Seq.{take-suc}
 use mathlib.Core.Option.{some}
-use Rattle.table_lane.specs.LaneNames.{Lane, Slot, blank_slot, slot_of, with_flags, done, PhaseCounts, Idle, Copying, Copied, Cleared, bytes_of, entry_of, flags_of, entry_of_frame, GoesDown, after_look, after_clear, after_ack}
-use Rattle.table_lane.specs.Words.{header_of}
-use Rattle.table_lane.specs.Views.{Bytes}
-use Rattle.table_lane.specs.Borders.{Borders, Slots, SlotsStand, empty, out, full, slot_at}
+use Rattle.table_lane.specs.LaneNames.{Lane, Slot, blank_slot, lane_slot_of, with_flags, done, PhaseCounts, Idle, Copying, Copied, Cleared, bytes_of, entry_of, flags_of, entry_of_frame, GoesDown, after_look, after_clear, after_ack}
+use Rattle.table_lane.specs.Words.{table_header_of}
+use Rattle.table_lane.specs.Views.{TableBytes}
+use Rattle.table_lane.specs.Borders.{Borders, Slots, TableSlotsStand, empty, out, full, slot_at}
 use Rattle.table_lane.specs.ShownLane.{RingStands, IndexStands, hand_in}
-use Rattle.table_lane.specs.LaneNames.{Look, Copy, Clear, Acknowledge, Runs}
+use Rattle.table_lane.specs.LaneNames.{Look, Copy, Clear, Acknowledge, LaneRuns}
 use Rattle.table_lane.specs.Kinds.{Looks, Copies, Clears, Acknowledges}
 use Rattle.table_lane.specs.Moment.{Moment, ShowsLane}
 use Rattle.table_lane.proofs.LaneLaws.{chunks_in, look_sees, tail_after}
@@ -22,12 +22,12 @@ use Rattle.table_lane.proofs.SenderShows.{borders_in, entry_is_frame}
 use Rattle.table_lane.proofs.MoverShows.{ring_stores_flag}
 
 -- A list of length 0 is empty.
-pub none_long : (xs : List Bytes) → length xs ≡ 0 → xs ≡ []
+pub none_long : (xs : List TableBytes) → length xs ≡ 0 → xs ≡ []
 none_long [] e = refl
 none_long (x ∷ xs) e = absurd (omega arith)
 
 -- a flag word is the flags of its position
-flag_is : (N : ℕ) (m : Moment) (slots : Slots) (n : ℕ) → ShowsLane N m slots → get_or m.words.flags (n % N) 0 ≡ (slot_of m.lane n).flags
+flag_is : (N : ℕ) (m : Moment) (slots : Slots) (n : ℕ) → ShowsLane N m slots → get_or m.words.flags (n % N) 0 ≡ (lane_slot_of m.lane n).flags
 flag_is N m slots n h =
     ap (λ (k : ℕ). get_or m.words.flags (n % k) 0) (sym h.of.entries)
     ∙ ap (λ (fs : List ℕ). get_or fs (n % m.lane.entries) 0) (sym h.ring.raised)
@@ -44,7 +44,7 @@ raised N m slots n is idle below h =
     let o = in_order N m slots h in
     let within : n < length m.send.sent = omega (arith, o.taken) in
     let is_frame : entry_of m.lane n ≡ entry_of_frame (get_or m.send.sent n []) = ap (λ es. get_or es n GoesDown) h.parts.entries ∙ entry_is_frame m.send.sent n within in
-    flag_is N m slots n h ∙ ap (λ (j : ℕ). (slot_of m.lane j).flags) (sym at) ∙ stands.flags ∙ ap (λ (j : ℕ). flags_of (entry_of m.lane j)) at ∙ ap flags_of is_frame
+    flag_is N m slots n h ∙ ap (λ (j : ℕ). (lane_slot_of m.lane j).flags) (sym at) ∙ stands.flags ∙ ap (λ (j : ℕ). flags_of (entry_of m.lane j)) at ∙ ap flags_of is_frame
 
 -- the next frame has landed: its slot goes to the receiver
 pub looks : Looks
@@ -52,7 +52,7 @@ looks N m slots n is idle raised h =
     let o = in_order N m slots h in
     let k = borders_in m in
     let lane : Lane = m.lane in
-    let frame : Bytes = get_or m.send.sent n [] in
+    let frame : TableBytes = get_or m.send.sent n [] in
     let copied = h.parts.copied in
     let whole = h.parts.whole in
     let lane_idle : lane.phase ≡ Idle = h.parts.stage ∙ idle in
@@ -61,7 +61,7 @@ looks N m slots n is idle raised h =
     let no_hand : length m.recv.hand ≡ 0 = h.receiving.in_hand ∙ ap hand_in idle in
     let empty_hand : m.recv.hand ≡ [] = none_long m.recv.hand no_hand in
     let sees = look_sees lane lane_idle h.law in
-    let up : (slot_of lane lane.got).flags ≡ done = ap (λ (j : ℕ). (slot_of lane j).flags) (copied ∙ sym is) ∙ sym (flag_is N m slots n h) ∙ raised in
+    let up : (lane_slot_of lane lane.got).flags ≡ done = ap (λ (j : ℕ). (lane_slot_of lane j).flags) (copied ∙ sym is) ∙ sym (flag_is N m slots n h) ∙ raised in
     let more : lane.got < lane.flagged = elim (cases_lt lane.got lane.flagged) [
       | inl landed ↦ landed
       | inr nothing ↦
@@ -77,7 +77,7 @@ looks N m slots n is idle raised h =
     let prefix : m.recv.got ++ frame ∷ [] ≡ take (length m.recv.got + 1) m.send.sent =
     ap (λ gs. gs ++ frame ∷ []) (sym (append-nil m.recv.got) ∙ ap (λ w. m.recv.got ++ w) (sym empty_hand) ∙ h.receiving.prefix ∙ ap (λ (j : ℕ). take j m.send.sent) (let e : length m.recv.got + length m.recv.hand ≡ n = omega arith in e))
     ∙ sym (take-suc m.send.sent n [] below) ∙ ap (λ (j : ℕ). take j m.send.sent) (let e : suc n ≡ length m.recv.got + 1 = omega arith in e) in
-    let runs : Runs (Look ∷ []) lane (after_look lane) = (after_look lane, (lane_idle, more, refl), refl) in (
+    let runs : LaneRuns (Look ∷ []) lane (after_look lane) = (after_look lane, (lane_idle, more, refl), refl) in (
       h.places.at n low (omega arith) ∙ ap some (slot_is k m.send.sent n l0 (le-ltb n k.looked (omega arith)) (lt-ltb n k.flagged (omega arith)) refl refl refl),
       below,
       (
@@ -95,7 +95,7 @@ looks N m slots n is idle raised h =
     )
 
 -- the header word of the entry that is looked at is its header
-pub header_is : (N : ℕ) (m : Moment) (slots : Slots) (n : ℕ) → n ≡ length m.recv.got → m.recv.phase ≡ Copying → ShowsLane N m slots → get_or m.words.headers (n % N) 0 ≡ header_of n
+pub header_is : (N : ℕ) (m : Moment) (slots : Slots) (n : ℕ) → n ≡ length m.recv.got → m.recv.phase ≡ Copying → ShowsLane N m slots → get_or m.words.headers (n % N) 0 ≡ table_header_of n
 header_is N m slots n is copying h =
     let o = in_order N m slots h in
     let one : length m.recv.hand ≡ 1 = h.receiving.in_hand ∙ ap hand_in copying in
@@ -114,7 +114,7 @@ copies N m slots copying h =
     let long : length (m.recv.got ++ m.recv.hand) ≡ length m.recv.got + length m.recv.hand = length-append m.recv.got m.recv.hand in
     let copied = h.parts.copied in
     let same : length (m.recv.got ++ m.recv.hand) + 0 ≡ length m.recv.got + length m.recv.hand = omega arith in
-    let places : SlotsStand N (record (borders_in m) { looked = length (m.recv.got ++ m.recv.hand) + 0 }) m.send.sent slots =
+    let places : TableSlotsStand N (record (borders_in m) { looked = length (m.recv.got ++ m.recv.hand) + 0 }) m.send.sent slots =
     record { count = h.places.count; at = λ n low high. h.places.at n low high ∙ ap (λ (j : ℕ). some (slot_at (record (borders_in m) { looked = j }) m.send.sent n)) (sym same) } in (
       all.0,
       next,
@@ -139,11 +139,11 @@ clears N m slots n is copied_phase h =
     let cleared_one : lane.cleared + 1 ≡ lane.got = counts.1 in
     let same : lane.cleared ≡ n = omega arith in
     let next : Lane = after_clear lane in
-    let slot : Slot = with_flags (slot_of lane lane.cleared) 0 in
+    let slot : Slot = with_flags (lane_slot_of lane lane.cleared) 0 in
     let after : Borders = record k { cleared = lane.cleared + 1 } in
     let ring : RingStands next.ring m.words.headers (set m.words.flags (lane.cleared % lane.entries) 0) =
     ring_stores_flag lane.ring m.words.headers m.words.flags (lane.cleared % lane.entries) slot 0 refl refl h.ring in
-    let runs : Runs (Clear ∷ []) lane next = (next, (lane_copied, refl), refl) in (
+    let runs : LaneRuns (Clear ∷ []) lane next = (next, (lane_copied, refl), refl) in (
       next,
       runs,
       assumption (
@@ -175,7 +175,7 @@ acks N m slots n is cleared_phase h =
       position = h.index.position;
       last_load = elim h.index.last_load [ inl old ↦ inl old | inr new ↦ inr (omega arith) ];
     } in
-    let runs : Runs (Acknowledge ∷ []) lane next = (next, (lane_cleared, refl), refl) in (
+    let runs : LaneRuns (Acknowledge ∷ []) lane next = (next, (lane_cleared, refl), refl) in (
       next,
       runs,
       assumption (runs_keep (Acknowledge ∷ []) lane next runs h.law, index, h.receiving.in_hand ∙ ap hand_in cleared_phase),

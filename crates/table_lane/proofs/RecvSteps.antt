@@ -7,7 +7,7 @@ use lib.ListN.{get_elem?}
 use Rattle.atomic_table.specs.Table.{Allows, takes}
 use Rattle.table_lane.specs.LaneNames.{done, Idle, Copying, Copied, Cleared}
 use Rattle.table_lane.specs.Words.{header_word, flag_word, index_out_word}
-use Rattle.table_lane.specs.Views.{Bytes, RecvPart, the_recv, HasRecv, with_recv}
+use Rattle.table_lane.specs.Views.{TableBytes, RecvPart, the_recv, HasRecv, with_recv}
 use Rattle.table_lane.specs.ShownLane.{hand_in}
 use Rattle.table_lane.specs.Moment.{Moment, ShowsLane}
 use Rattle.table_lane.specs.Rule.{Content, Sitter, ShowsALane}
@@ -34,13 +34,13 @@ sees_flag_allowed N slots id me i is has idle board h counted at fits =
     part_too (λ v. v.mover) board.views id me.0 m.mover (λ mover. n < mover.flagged → found ≡ done) at seat.now.seats.mover (λ below. word ∙ receiving.raised N m board.homes n refl idle below seat.now.shows) in
     let no_hand : length part.hand ≡ 0 = seat.now.shows.receiving.in_hand ∙ ap hand_in idle in
     let prefix : part.got ≡ take (length part.got) m.send.sent =
-    sym (append-nil part.got) ∙ ap (λ (w : List Bytes). part.got ++ w) (sym (none_long part.hand no_hand)) ∙ seat.now.shows.receiving.prefix
+    sym (append-nil part.got) ∙ ap (λ (w : List TableBytes). part.got ++ w) (sym (none_long part.hand no_hand)) ∙ seat.now.shows.receiving.prefix
     ∙ ap (λ (j : ℕ). take j m.send.sent) (let e : length part.got + length part.hand ≡ length part.got = omega arith in e) in
     let begins = part_too (λ v. v.send) board.views id me.0 m.send (λ send. part.got ≡ take (length part.got) send.sent) at seat.now.seats.send prefix in
     elim (cases_eq found done) [
       | inl up ↦
           let look = receiving.looks N m board.homes n refl idle (sym word ∙ up) seat.now.shows in
-          let frame : Bytes = get_or m.send.sent n [] in
+          let frame : TableBytes = get_or m.send.sent n [] in
           let after : RecvPart = frame_found (flag_loaded part found) frame in
           let at_place : n % N ≡ n % part.entries = ap (λ (k : ℕ). n % k) (sym knows) in
           let hit : eqb found done ≡ true = eq-eqb found done up in

@@ -4,7 +4,7 @@ use Rattle.std.proofs.lemmas.Bool.{lt-ltb, le-ltb, cases_lt, false≢true}
 use mathlib.Core.Option.{some, none}
 use mathlib.Core.Option as home
 use Rattle.table_lane.specs.LaneNames.{Lane, Phase, PhaseCounts, Idle, Copying, Copied, Cleared, is_copying, is_copied}
-use Rattle.table_lane.specs.Views.{Bytes}
+use Rattle.table_lane.specs.Views.{TableBytes}
 use Rattle.table_lane.specs.Borders.{Borders, slot_at}
 use Rattle.table_lane.specs.ShownLane.{hand_in, claimed_by}
 use Rattle.table_lane.specs.Moment.{Moment}
@@ -14,7 +14,7 @@ use Rattle.table_lane.proofs.Order.{in_order}
 use Rattle.table_lane.proofs.SenderShows.{borders_in}
 
 -- whether a slot is out
-abbrev is_out : home.Option (home.Option (Option Bytes)) → Bool
+abbrev is_out : home.Option (home.Option (Option TableBytes)) → Bool
 is_out none = false
 is_out (some none) = true
 is_out (some (some content)) = false

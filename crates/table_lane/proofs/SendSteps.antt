@@ -6,8 +6,8 @@ use mathlib.Core.Option.{none}
 use lib.ListN.{get_elem?}
 use Rattle.atomic_table.specs.Table.{Allows, takes}
 use Rattle.table_lane.specs.LaneNames.{free_entries, head_of, tail_of}
-use Rattle.table_lane.specs.Words.{posted_word, index_word, link_word, header_of, cut_word}
-use Rattle.table_lane.specs.Views.{Bytes, CutPart, SendPart, the_send, HasSend, with_send}
+use Rattle.table_lane.specs.Words.{posted_word, index_word, link_word, table_header_of, cut_word}
+use Rattle.table_lane.specs.Views.{TableBytes, CutPart, SendPart, the_send, HasSend, with_send}
 use Rattle.table_lane.specs.Moment.{Moment, ShowsLane}
 use Rattle.table_lane.specs.Rule.{Content, Sitter, ShowsALane}
 use Rattle.table_lane.specs.Knowledge.{link_loaded, index_loaded, head, free_by, slot_claimed, frame_sent}
@@ -63,7 +63,7 @@ sees_index_allowed N slots id me i is has no_claim board h counted at fits =
     ]
 
 -- The rule of a table allows the sender to store a posted header, its slot then going home with the frame.
-pub stores_posted_allowed : (N slots id : ℕ) (me : Sitter) (i new : ℕ) (frame : Bytes) (k : ℕ) (others : List (ℕ × Content)) → i ≡ posted_word N (length (the_send me.0).sent) → new ≡ header_of (length (the_send me.0).sent)
+pub stores_posted_allowed : (N slots id : ℕ) (me : Sitter) (i new : ℕ) (frame : TableBytes) (k : ℕ) (others : List (ℕ × Content)) → i ≡ posted_word N (length (the_send me.0).sent) → new ≡ table_header_of (length (the_send me.0).sent)
     → me.1 ≡ (k, Some frame) ∷ others → k ≡ length (the_send me.0).sent % N → length frame ≤ 65536 → length (the_send me.0).sent < 2 ^ 62 → HasSend me.0 → (the_send me.0).claims ≡ true
     → Allows (ShowsALane N) slots id me i (λ _. new) (λ _. stores_posted me new)
 stores_posted_allowed N slots id me i new frame k others is header hand slot fits counted has claim =
@@ -73,4 +73,4 @@ stores_posted_allowed N slots id me i new frame k others is header hand slot fit
     let seat = sender_sits N board h id me.0 at has in
     let n : ℕ = length m.send.sent in
     let sent = sending.sends N m board.homes frame claim fits counted seat.now.sized seat.now.shows in
-    store_shows (frame_sent m.send frame) seat is header (set_posted N m.words seat.now.sized seat.two n (header_of n)) seat.now.knows sent.2)
+    store_shows (frame_sent m.send frame) seat is header (set_posted N m.words seat.now.sized seat.two n (table_header_of n)) seat.now.knows sent.2)

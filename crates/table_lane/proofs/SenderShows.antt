@@ -4,11 +4,11 @@ use Rattle.std.proofs.lemmas.Bool.{lt-ltb, le-ltb, cases_eq, cases_lt}
 use Rattle.std.proofs.lemmas.List.{map-append, length_push, get_or_push, get_or_append_left, take-append-le, length-map, drop-append-le}
 use mathlib.Core.Option.{some}
 use Rattle.table_lane.specs.LaneNames.{Entry, entry_of_frame, GoesDown, Lane, entry_of, free_entries, head_of, free_in, writes_of, tail_of, after_begin}
-use Rattle.table_lane.specs.Words.{header_of}
-use Rattle.table_lane.specs.Views.{Bytes}
+use Rattle.table_lane.specs.Words.{table_header_of}
+use Rattle.table_lane.specs.Views.{TableBytes}
 use Rattle.table_lane.specs.Borders.{Borders, Slots, out, full, slot_at}
-use Rattle.table_lane.specs.ShownLane.{borders_of, claimed_by, in_flight, PostedStand}
-use Rattle.table_lane.specs.LaneNames.{Runs}
+use Rattle.table_lane.specs.ShownLane.{borders_of, claimed_by, table_in_flight, PostedStand}
+use Rattle.table_lane.specs.LaneNames.{LaneRuns}
 use Rattle.table_lane.specs.LaneSteps.{send_steps}
 use Rattle.table_lane.specs.Kinds.{Claims, Sends}
 use Rattle.table_lane.specs.Moment.{Moment, ShowsLane}
@@ -23,7 +23,7 @@ abbrev pub borders_in : Moment → Borders
 borders_in m = borders_of m.back.freed m.lane.cleared (length m.recv.got + length m.recv.hand) m.mover.flagged (m.mover.flagged + length m.mover.held) (length m.send.sent) m.send.claims
 
 -- the entries of the lane are frames
-pub entry_is_frame : (frames : List Bytes) (n : ℕ) → n < length frames → get_or (map entry_of_frame frames) n GoesDown ≡ entry_of_frame (get_or frames n [])
+pub entry_is_frame : (frames : List TableBytes) (n : ℕ) → n < length frames → get_or (map entry_of_frame frames) n GoesDown ≡ entry_of_frame (get_or frames n [])
 entry_is_frame [] n below = absurd (omega arith)
 entry_is_frame (f ∷ frames) zero below = refl
 entry_is_frame (f ∷ frames) (suc n) below = entry_is_frame frames n (omega arith)
@@ -64,19 +64,19 @@ claims N m slots free_hand free h =
     )
 
 -- one more posted header
-posts : (N : ℕ) (posted : List ℕ) (n more : ℕ) → 0 < N → more ≡ n + 1 → length posted ≡ N → PostedStand N posted n → PostedStand N (set posted (n % N) (header_of n)) more
+posts : (N : ℕ) (posted : List ℕ) (n more : ℕ) → 0 < N → more ≡ n + 1 → length posted ≡ N → PostedStand N posted n → PostedStand N (set posted (n % N) (table_header_of n)) more
 posts N posted n more some_slot is long h =
     let within : n % N < N = mod-lt n some_slot in
     record {
       newest = λ j below near. elim (cases_eq j n) [
-        | inl same ↦ ap (λ (k : ℕ). get_or (set posted (n % N) (header_of n)) (k % N) 0) same ∙ get_or-set_same posted (n % N) (header_of n) 0 (omega arith) ∙ ap header_of (sym same)
+        | inl same ↦ ap (λ (k : ℕ). get_or (set posted (n % N) (table_header_of n)) (k % N) 0) same ∙ get_or-set_same posted (n % N) (table_header_of n) 0 (omega arith) ∙ ap table_header_of (sym same)
         | inr other ↦
             let before : j < n = omega arith in
-            get_or-set_other posted (n % N) (j % N) (header_of n) 0 (λ e. other_number N j n before (omega arith) (sym e)) ∙ h.newest j before (omega arith)
+            get_or-set_other posted (n % N) (j % N) (table_header_of n) 0 (λ e. other_number N j n before (omega arith) (sym e)) ∙ h.newest j before (omega arith)
       ];
       never = λ position past below.
           let small : n % N ≡ n = mod-eq_of_lt (omega arith) in
-          get_or-set_other posted (n % N) position (header_of n) 0 (λ e. omega arith) ∙ h.never position (omega arith) below;
+          get_or-set_other posted (n % N) position (table_header_of n) 0 (λ e. omega arith) ∙ h.never position (omega arith) below;
     }
 
 -- the frame stands in its slot, which is at home, and its writes are on their way
@@ -99,15 +99,15 @@ sends N m slots frame claimed fits counted sized h =
     let open_yet : (j : ℕ) → j < length lane.sent → entry_of lane j ≢ GoesDown =
     λ j below down. let below_n : j < n = omega arith in let is : get_or lane.sent j GoesDown ≡ entry_of_frame (get_or m.send.sent j []) = ap (λ es. get_or es j GoesDown) h.parts.entries ∙ entry_is_frame m.send.sent j below_n in cc in
     let next : Lane = record lane { sent = lane.sent ++ entry ∷ []; todo = []; flight = lane.flight ++ writes_of (length lane.sent) entry } in
-    let runs : Runs (send_steps (length lane.sent) frame) lane next =
+    let runs : LaneRuns (send_steps (length lane.sent) frame) lane next =
     (after_begin lane entry, (h.of.todo, free, subst (λ (most : ℕ). length frame ≤ most) (sym h.of.largest) fits, open_yet, refl), post_all (writes_of (length lane.sent) entry) (after_begin lane entry) refl h.of.up) in
     let dropped : drop m.mover.flagged (lane.sent ++ entry ∷ []) ≡ drop m.mover.flagged lane.sent ++ entry ∷ [] = drop-append-le m.mover.flagged lane.sent (entry ∷ []) (omega arith) in
     let left : length (drop m.mover.flagged lane.sent) ≡ length lane.sent - m.mover.flagged = length-drop m.mover.flagged lane.sent in
     let marks = h.holding.marks in
-    let flight : lane.flight ++ writes_of (length lane.sent) entry ≡ in_flight m.mover.flagged m.mover.stored (drop m.mover.flagged (lane.sent ++ entry ∷ [])) =
+    let flight : lane.flight ++ writes_of (length lane.sent) entry ≡ table_in_flight m.mover.flagged m.mover.stored (drop m.mover.flagged (lane.sent ++ entry ∷ [])) =
     ap (λ w. w ++ writes_of (length lane.sent) entry) h.parts.flight
     ∙ sym (in_flight-send m.mover.flagged (length lane.sent) m.mover.stored (drop m.mover.flagged lane.sent) entry (omega arith) (omega arith))
-    ∙ ap (in_flight m.mover.flagged m.mover.stored) (sym dropped) in
+    ∙ ap (table_in_flight m.mover.flagged m.mover.stored) (sym dropped) in
     let after : Borders = record k { sent = length (m.send.sent ++ frame ∷ []); claimed = claimed_by (length (m.send.sent ++ frame ∷ [])) false } in
     let low : m.back.freed ≤ n = omega arith in
     let same_claimed : after.claimed ≡ k.claimed = omega arith in
@@ -118,7 +118,7 @@ sends N m slots frame claimed fits counted sized h =
     let others : (j : ℕ) → j ≢ n → slot_at after (m.send.sent ++ frame ∷ []) j ≡ slot_at k m.send.sent j = λ j other. elim (cases_lt j n) [
       | inl below ↦
           let sent : nat_lt j after.sent ≡ nat_lt j k.sent = ap (nat_lt j) more ∙ moves_past j n other in
-          let here : full (m.send.sent ++ frame ∷ []) j ≡ full m.send.sent j = ap (λ (f : Bytes). some (Some f)) (get_or_append_left m.send.sent (frame ∷ []) [] j below) in
+          let here : full (m.send.sent ++ frame ∷ []) j ≡ full m.send.sent j = ap (λ (f : TableBytes). some (Some f)) (get_or_append_left m.send.sent (frame ∷ []) [] j below) in
           λ i. slot_by (nat_lt j k.cleared) (nat_lt j k.looked) (nat_lt j k.flagged) (nat_lt j k.taken) (sent i) (nat_lt j (same_claimed i)) (here i)
       | inr above ↦
           let past_flagged : nat_lt j k.flagged ≡ false = le-ltb j k.flagged (omega arith) in
@@ -156,6 +156,6 @@ sends N m slots frame claimed fits counted sized h =
         room = record { one_free = omega arith; counted = omega arith };
         places = slot_changes N k after m.send.sent (m.send.sent ++ frame ∷ []) slots n (some (Some frame)) (omega (arith, o.two)) h.places refl low (omega arith)
             others
-            (slot_is after (m.send.sent ++ frame ∷ []) n l0 l1 l2 l3 (lt-ltb n after.sent (omega arith)) refl ∙ ap (λ (f : Bytes). some (Some f)) (get_or_push m.send.sent frame [] n refl));
+            (slot_is after (m.send.sent ++ frame ∷ []) n l0 l1 l2 l3 (lt-ltb n after.sent (omega arith)) refl ∙ ap (λ (f : TableBytes). some (Some f)) (get_or_push m.send.sent frame [] n refl));
       },
     )

@@ -5,16 +5,16 @@ use mathlib.Core.Option.{some, none}
 use mathlib.Core.Option as home
 use lib.ListN.{get_elem?}
 use Rattle.atomic_table.proofs.Lists.{set_here, set_else}
-use Rattle.table_lane.specs.Views.{Bytes}
-use Rattle.table_lane.specs.Borders.{Borders, Slots, empty, out, full, slot_at, SlotsStand}
+use Rattle.table_lane.specs.Views.{TableBytes}
+use Rattle.table_lane.specs.Borders.{Borders, Slots, empty, out, full, slot_at, TableSlotsStand}
 use Rattle.table_lane.proofs.LaneLaws.{other_number}
 
 -- the slot by what is known of its number
-abbrev pub slot_by : (a b c d e f : Bool) → home.Option (Option Bytes) → home.Option (Option Bytes)
+abbrev pub slot_by : (a b c d e f : Bool) → home.Option (Option TableBytes) → home.Option (Option TableBytes)
 slot_by a b c d e f here = if a then empty else if b then out else if c then here else if d then out else if e then here else if f then out else empty
 
 -- How n compares with the borders of a ring says where the slot of entry n is, and what is in it.
-pub slot_is : (k : Borders) (sent : List Bytes) (n : ℕ) {a b c d e f : Bool} → nat_lt n k.cleared ≡ a → nat_lt n k.looked ≡ b → nat_lt n k.flagged ≡ c → nat_lt n k.taken ≡ d → nat_lt n k.sent ≡ e
+pub slot_is : (k : Borders) (sent : List TableBytes) (n : ℕ) {a b c d e f : Bool} → nat_lt n k.cleared ≡ a → nat_lt n k.looked ≡ b → nat_lt n k.flagged ≡ c → nat_lt n k.taken ≡ d → nat_lt n k.sent ≡ e
     → nat_lt n k.claimed ≡ f → slot_at k sent n ≡ slot_by a b c d e f (full sent n)
 slot_is k sent n p q r s t u = λ i. slot_by (p i) (q i) (r i) (s i) (t i) (u i) (full sent n)
 
@@ -33,8 +33,8 @@ apart N low n m a b c d other = elim (cases_lt n m) [
 ]
 
 -- one slot changes
-pub slot_changes : (N : ℕ) (before after : Borders) (sent more : List Bytes) (slots : Slots) (m : ℕ) (new : home.Option (Option Bytes)) → 0 < N → SlotsStand N before sent slots → after.freed ≡ before.freed
-    → before.freed ≤ m → m < before.freed + N → ((n : ℕ) → n ≢ m → slot_at after more n ≡ slot_at before sent n) → slot_at after more m ≡ new → SlotsStand N after more (set slots (m % N) new)
+pub slot_changes : (N : ℕ) (before after : Borders) (sent more : List TableBytes) (slots : Slots) (m : ℕ) (new : home.Option (Option TableBytes)) → 0 < N → TableSlotsStand N before sent slots → after.freed ≡ before.freed
+    → before.freed ≤ m → m < before.freed + N → ((n : ℕ) → n ≢ m → slot_at after more n ≡ slot_at before sent n) → slot_at after more m ≡ new → TableSlotsStand N after more (set slots (m % N) new)
 slot_changes N before after sent more slots m new some_slot stand freed low high same here =
     let at : ℕ = m % N in
     let within : at < N = mod-lt m some_slot in

@@ -7,8 +7,8 @@ use mathlib.Core.Option as home
 use lib.ListN.{get_elem?}
 use Rattle.atomic_table.specs.Table.{Splits, Joins, opening}
 use Rattle.table_lane.specs.LaneNames.{Lane, Slot, new_lane, tail_of}
-use Rattle.table_lane.specs.Words.{words_of, first_words}
-use Rattle.table_lane.specs.Views.{LaneView, joined, no_parts, PartKind, OfMover, OfReceiver, OfWayBack, OfCut, without, alone, all_parts, new_send, new_move, new_recv, new_back, new_cut}
+use Rattle.table_lane.specs.Words.{table_words_of, first_words}
+use Rattle.table_lane.specs.Views.{LaneView, table_joined, no_parts, PartKind, OfMover, OfReceiver, OfWayBack, OfCut, without, alone, all_parts, new_send, new_move, new_recv, new_back, new_cut}
 use Rattle.table_lane.specs.ShownLane.{borders_of}
 use Rattle.table_lane.specs.Moment.{Moment, EachHasOneSeat, ShowsLane}
 use Rattle.table_lane.specs.Rule.{Content, Board, IsMoment, ShowsALane}
@@ -52,15 +52,15 @@ pub joins_are_no_steps : JoinsAreNoSteps
 joins_are_no_steps N m board id other view second is apart at at_other =
     moment_stays N board m _ is (
     record {
-      send = part_joins (λ v. v.send) board.views id other view second (joined view second) m.send at apart at_other refl refl is.seats.send;
-      mover = part_joins (λ v. v.mover) board.views id other view second (joined view second) m.mover at apart at_other refl refl is.seats.mover;
-      recv = part_joins (λ v. v.recv) board.views id other view second (joined view second) m.recv at apart at_other refl refl is.seats.recv;
-      back = part_joins (λ v. v.back) board.views id other view second (joined view second) m.back at apart at_other refl refl is.seats.back;
-      cut = part_joins (λ v. v.cut) board.views id other view second (joined view second) m.cut at apart at_other refl refl is.seats.cut;
+      send = part_joins (λ v. v.send) board.views id other view second (table_joined view second) m.send at apart at_other refl refl is.seats.send;
+      mover = part_joins (λ v. v.mover) board.views id other view second (table_joined view second) m.mover at apart at_other refl refl is.seats.mover;
+      recv = part_joins (λ v. v.recv) board.views id other view second (table_joined view second) m.recv at apart at_other refl refl is.seats.recv;
+      back = part_joins (λ v. v.back) board.views id other view second (table_joined view second) m.back at apart at_other refl refl is.seats.back;
+      cut = part_joins (λ v. v.cut) board.views id other view second (table_joined view second) m.cut at apart at_other refl refl is.seats.cut;
     })
 
 -- The rule of a table allows two seats to be joined, one having the parts of both and the other none.
-pub seats_join : (N id : ℕ) (view : LaneView) (other : ℕ) (second : LaneView) → Joins (ShowsALane N) id view other second (joined view second) no_parts
+pub seats_join : (N id : ℕ) (view : LaneView) (other : ℕ) (second : LaneView) → Joins (ShowsALane N) id view other second (table_joined view second) no_parts
 seats_join N id view other second board h at apart at_other = (h.0, joins_are_no_steps N h.0 board id other view second h.1 apart at at_other)
 
 map-replicate : {A B : Type 0} (f : A → B) (n : ℕ) (x : A) → map f (replicate n x) ≡ replicate n (f x)
@@ -115,7 +115,7 @@ new_shows N payload two small long = record {
     length_homes (suc n) = ap suc (length_homes n)
 
 -- a new table shows a fresh lane
-pub opens : (N : ℕ) → 2 ≤ N → N ≤ 65535 → ShowsALane N (opening (words_of (first_words N)) (replicate N None) (all_parts N))
+pub opens : (N : ℕ) → 2 ≤ N → N ≤ 65535 → ShowsALane N (opening (table_words_of (first_words N)) (replicate N None) (all_parts N))
 opens N two small =
     let payload = some_payload 65536 in (
       new_moment N payload.0,

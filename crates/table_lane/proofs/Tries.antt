@@ -3,8 +3,8 @@ use Rattle.std.proofs.Common.{◌≡◌, ℕ, zero, suc, ◌+◌, ◌%◌, ◌�
 use Rattle.std.specs.Prelude.{slice_get, MatchBool, MatchOption}
 use Rattle.table_lane.specs.declared.parts.MovePart.{MovePart}
 use Rattle.table_lane.specs.declared.parts.BackPart.{BackPart}
-use Rattle.table_lane.specs.Words.{header_of}
-use Rattle.table_lane.specs.Knowledge.{taken, posted_loaded, frame_taken, index_out_loaded, index_stored}
+use Rattle.table_lane.specs.Words.{table_header_of}
+use Rattle.table_lane.specs.Knowledge.{table_taken, posted_loaded, frame_taken, index_out_loaded, index_stored}
 use Rattle.table_lane.specs.declared.mover.MoveAnswer.{MoveAnswer}
 use Rattle.table_lane.specs.declared.mover.MoveAnswer.TheVariants.{Took, Header, Flag}
 use Rattle.table_lane.specs.MoveChoice.{waiting, open_moves, after_move, Makes, MakesFirst, TakesOrMakes}
@@ -50,7 +50,7 @@ taken_raises : (before after : MovePart) (found : ℕ) (frame : List ℕ) → af
 taken_raises before after found frame is = subst (λ (p : MovePart). Raised before p) (sym is) (record { more = omega arith; of = refl })
 
 load_raises : (new : Bool) (moves : List MoveAnswer) (before after : MovePart) (found : ℕ) (answer : MoveAnswer) → AllStore moves
-    → MatchBool new ((answer ≡ Took (taken before)) × ((frame : List ℕ) × (after ≡ frame_taken (posted_loaded before found) frame))) (MakesFirst moves (posted_loaded before found) answer after)
+    → MatchBool new ((answer ≡ Took (table_taken before)) × ((frame : List ℕ) × (after ≡ frame_taken (posted_loaded before found) frame))) (MakesFirst moves (posted_loaded before found) answer after)
     → Raised before after
 load_raises true moves before after found answer raise took = taken_raises before after found took.1.0 took.1.1
 load_raises false moves before after found answer raise made = first_raises moves before after found answer raise made
@@ -58,7 +58,7 @@ load_raises false moves before after found answer raise made = first_raises move
 chosen_raises : (moves : List MoveAnswer) (k : ℕ) (all : List MoveAnswer) (before after : MovePart) (answer : MoveAnswer) → AllStore moves → AllStore all
     → MatchOption (slice_get moves k) (TakesOrMakes all before answer after) (λ move. Makes before move answer after)
     → Raised before after
-chosen_raises [] k all before after answer raise raise_all made = load_raises (eqb after.posted (header_of (taken before))) all before after after.posted answer raise_all made
+chosen_raises [] k all before after answer raise raise_all made = load_raises (eqb after.posted (table_header_of (table_taken before))) all before after after.posted answer raise_all made
 chosen_raises (move ∷ moves) zero all before after answer raise raise_all made = made_raises before after move answer raise.0 made
 chosen_raises (move ∷ moves) (suc k) all before after answer raise raise_all made = chosen_raises moves k all before after answer raise.1 raise_all made
 

@@ -6,10 +6,10 @@ use mathlib.Core.Option.{some}
 use lib.ListN.{get_elem?}
 use Rattle.table_lane.specs.LaneNames.{Lane, tail_of}
 use Rattle.table_lane.specs.Words.{cut_word}
-use Rattle.table_lane.specs.Views.{Bytes}
-use Rattle.table_lane.specs.Borders.{Borders, Slots, SlotsStand}
+use Rattle.table_lane.specs.Views.{TableBytes}
+use Rattle.table_lane.specs.Borders.{Borders, Slots, TableSlotsStand}
 use Rattle.table_lane.specs.ShownLane.{number_at}
-use Rattle.table_lane.specs.LaneNames.{Runs}
+use Rattle.table_lane.specs.LaneNames.{LaneRuns}
 use Rattle.table_lane.specs.LaneSteps.{index_steps}
 use Rattle.table_lane.specs.Kinds.{LoadsIndex, StoresIndex, Cuts}
 use Rattle.table_lane.proofs.LaneLaws.{number_is, number_from, tail_after}
@@ -47,8 +47,8 @@ loads_index N m slots h =
     h.link h.seen_cut h.room h.places
 
 -- the slots of entries that are given back are the sender's
-gives_back : (N : ℕ) (k : Borders) (sent : List Bytes) (slots : Slots) (freed : ℕ) → k.freed ≤ freed → freed ≤ k.cleared → k.cleared ≤ k.looked → k.looked ≤ k.flagged → k.flagged ≤ k.taken → k.taken ≤ k.sent → k.sent ≤ k.claimed
-    → k.claimed < k.freed + N → SlotsStand N k sent slots → SlotsStand N (record k { freed = freed }) sent slots
+gives_back : (N : ℕ) (k : Borders) (sent : List TableBytes) (slots : Slots) (freed : ℕ) → k.freed ≤ freed → freed ≤ k.cleared → k.cleared ≤ k.looked → k.looked ≤ k.flagged → k.flagged ≤ k.taken → k.taken ≤ k.sent → k.sent ≤ k.claimed
+    → k.claimed < k.freed + N → TableSlotsStand N k sent slots → TableSlotsStand N (record k { freed = freed }) sent slots
 gives_back N k sent slots freed a b c d e f g near stand = record {
   count = stand.count;
   at = λ n low high. elim (cases_lt n (k.freed + N)) [
@@ -77,7 +77,7 @@ stores_index N m slots new h =
     let next : Lane = record lane { returning = run.0; freed = n + 1; index_word = run.1 } in
     let named : m.back.index ≡ tail_of N (n + 1) = sym found.2 ∙ tail_after N n o.two in
     let one_free = h.room.one_free in
-    let runs : Runs (index_steps lane.freed (n + 1 - lane.freed)) lane next = run.2 in (
+    let runs : LaneRuns (index_steps lane.freed (n + 1 - lane.freed)) lane next = run.2 in (
       next,
       runs,
       record {

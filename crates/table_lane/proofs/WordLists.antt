@@ -2,7 +2,7 @@
 use Rattle.std.proofs.Common.{◌≡◌, ℕ, ◌+◌, ◌*◌, ◌-◌, ◌%◌, ◌<◌, ◌≤◌, List, [], ◌∷◌, ◌++◌, length, set, get_or, refl, ap, ◌∙◌, arith, mod-lt, mod-eq_of_lt, sym, length-set, length-append, replicate}
 use Rattle.std.proofs.lemmas.List.{get_or_append_left, get_or-append_right, set-append_left, set-append_right, replicate-append-replicate, length-replicate}
 use Rattle.table_lane.specs.LaneNames.{tail_of}
-use Rattle.table_lane.specs.Words.{Words, first_words, spacing, spaced, words_of, words_in, AreSized, posted_word, header_word, flag_word, index_out_word, index_word, link_word}
+use Rattle.table_lane.specs.Words.{Words, first_words, spacing, spaced, table_words_of, words_in, AreSized, posted_word, header_word, flag_word, index_out_word, index_word, link_word}
 
 right_at : {A : Type 0} (xs ys : List A) (n i k : ℕ) (d : A) → length xs ≡ n → i ≡ n + k → get_or (xs ++ ys) i d ≡ get_or ys k d
 right_at xs ys n i k d long is = get_or-append_right xs ys n i d long (omega arith) ∙ ap (λ j. get_or ys j d) (let e : i - n ≡ k = omega arith in e)
@@ -22,7 +22,7 @@ set-spaced xs ys n k a long below = set-append_left (spaced xs) ys k a (omega (a
 
 -- one word of a table is stored, and the words lie as before
 pub record Stores (N : ℕ) (before : Words) (i word : ℕ) (after : Words) : Type 0 where
-  pub words : set (words_of before) i word ≡ words_of after
+  pub words : set (table_words_of before) i word ≡ table_words_of after
   pub sized : AreSized N after
 
 module _ (N : ℕ) (w : Words) (sized : AreSized N w) (two : 2 ≤ N) where
@@ -43,42 +43,42 @@ module _ (N : ℕ) (w : Words) (sized : AreSized N w) (two : 2 ≤ N) where
   abbrev area : ℕ
   area = N + spacing
 
-  at_headers : (i k : ℕ) → i ≡ area + k → get_or (words_of w) i 0 ≡ get_or from_headers k 0
+  at_headers : (i k : ℕ) → i ≡ area + k → get_or (table_words_of w) i 0 ≡ get_or from_headers k 0
   at_headers i k is = right_at (spaced w.posted) from_headers area i k 0 (length-spaced w.posted N sized.posted) is
 
-  at_flags : (i k : ℕ) → i ≡ area + (area + k) → get_or (words_of w) i 0 ≡ get_or from_flags k 0
+  at_flags : (i k : ℕ) → i ≡ area + (area + k) → get_or (table_words_of w) i 0 ≡ get_or from_flags k 0
   at_flags i k is = at_headers i (area + k) is ∙ right_at (spaced w.headers) from_flags area (area + k) k 0 (length-spaced w.headers N sized.headers) refl
 
-  at_last : (i k : ℕ) → i ≡ area + (area + (area + k)) → get_or (words_of w) i 0 ≡ get_or last k 0
+  at_last : (i k : ℕ) → i ≡ area + (area + (area + k)) → get_or (table_words_of w) i 0 ≡ get_or last k 0
   at_last i k is = at_flags i (area + k) is ∙ right_at (spaced w.flags) last area (area + k) k 0 (length-spaced w.flags N sized.flags) refl
 
-  set_headers : (i k x : ℕ) → i ≡ area + k → set (words_of w) i x ≡ spaced w.posted ++ set from_headers k x
+  set_headers : (i k x : ℕ) → i ≡ area + k → set (table_words_of w) i x ≡ spaced w.posted ++ set from_headers k x
   set_headers i k x is = set_right_at (spaced w.posted) from_headers area i k x (length-spaced w.posted N sized.posted) is
 
-  set_flags : (i k x : ℕ) → i ≡ area + (area + k) → set (words_of w) i x ≡ spaced w.posted ++ (spaced w.headers ++ set from_flags k x)
+  set_flags : (i k x : ℕ) → i ≡ area + (area + k) → set (table_words_of w) i x ≡ spaced w.posted ++ (spaced w.headers ++ set from_flags k x)
   set_flags i k x is =
       set_headers i (area + k) x is ∙ ap (λ ws. spaced w.posted ++ ws) (set_right_at (spaced w.headers) from_flags area (area + k) k x (length-spaced w.headers N sized.headers) refl)
 
-  set_last : (i k x : ℕ) → i ≡ area + (area + (area + k)) → set (words_of w) i x ≡ spaced w.posted ++ (spaced w.headers ++ (spaced w.flags ++ set last k x))
+  set_last : (i k x : ℕ) → i ≡ area + (area + (area + k)) → set (table_words_of w) i x ≡ spaced w.posted ++ (spaced w.headers ++ (spaced w.flags ++ set last k x))
   set_last i k x is =
       set_flags i (area + k) x is ∙ ap (λ ws. spaced w.posted ++ (spaced w.headers ++ ws)) (set_right_at (spaced w.flags) last area (area + k) k x (length-spaced w.flags N sized.flags) refl)
 
-  pub posted_at : (n : ℕ) → get_or (words_of w) (posted_word N n) 0 ≡ get_or w.posted (n % N) 0
+  pub posted_at : (n : ℕ) → get_or (table_words_of w) (posted_word N n) 0 ≡ get_or w.posted (n % N) 0
   posted_at n = get_or-spaced w.posted from_headers N (n % N) sized.posted (within n)
 
-  pub header_at : (n : ℕ) → get_or (words_of w) (header_word N n) 0 ≡ get_or w.headers (n % N) 0
+  pub header_at : (n : ℕ) → get_or (table_words_of w) (header_word N n) 0 ≡ get_or w.headers (n % N) 0
   header_at n = at_headers (header_word N n) (n % N) refl ∙ get_or-spaced w.headers from_flags N (n % N) sized.headers (within n)
 
-  pub flag_at : (n : ℕ) → get_or (words_of w) (flag_word N n) 0 ≡ get_or w.flags (n % N) 0
+  pub flag_at : (n : ℕ) → get_or (table_words_of w) (flag_word N n) 0 ≡ get_or w.flags (n % N) 0
   flag_at n = at_flags (flag_word N n) (n % N) (omega arith) ∙ get_or-spaced w.flags last N (n % N) sized.flags (within n)
 
-  pub index_out_at : get_or (words_of w) (index_out_word N) 0 ≡ w.index_out
+  pub index_out_at : get_or (table_words_of w) (index_out_word N) 0 ≡ w.index_out
   index_out_at = at_last (index_out_word N) 0 (omega arith)
 
-  pub index_at : get_or (words_of w) (index_word N) 0 ≡ w.index
+  pub index_at : get_or (table_words_of w) (index_word N) 0 ≡ w.index
   index_at = at_last (index_word N) (1 + spacing) (omega arith)
 
-  pub link_at : get_or (words_of w) (link_word N) 0 ≡ w.link
+  pub link_at : get_or (table_words_of w) (link_word N) 0 ≡ w.link
   link_at = at_last (link_word N) (2 * (1 + spacing)) (omega arith)
 
   pub set_posted : (n x : ℕ) → Stores N w (posted_word N n) x (record w { posted = set w.posted (n % N) x })
@@ -114,7 +114,7 @@ abbrev pub zero_words : ℕ → Words
 zero_words N = record { posted = replicate N 0; headers = replicate N 0; flags = replicate N 0; index_out = 0; index = 0; link = 0 }
 
 -- This many zeros as a table has words are words of a table, all 0.
-pub zeros_lie : (N : ℕ) → replicate (words_in N) 0 ≡ words_of (zero_words N)
+pub zeros_lie : (N : ℕ) → replicate (words_in N) 0 ≡ table_words_of (zero_words N)
 zeros_lie N =
     let area : ℕ = N + spacing in
     let rest : ℕ = 3 * (1 + spacing) in
@@ -124,7 +124,7 @@ zeros_lie N =
     ap zeros split ∙ sym (join _ (area + (area + rest)) (join _ (area + rest) (join _ rest refl)))
 
 -- with both indices at the last position they are those of a new table
-pub first_lie : (N last : ℕ) → 2 ≤ N → last ≡ N - 1 → set (set (replicate (words_in N) 0) (index_out_word N) last) (index_word N) last ≡ words_of (first_words N)
+pub first_lie : (N last : ℕ) → 2 ≤ N → last ≡ N - 1 → set (set (replicate (words_in N) 0) (index_out_word N) last) (index_word N) last ≡ table_words_of (first_words N)
 first_lie N last two is =
     let zeros : AreSized N (zero_words N) = record { posted = length-replicate N 0; headers = length-replicate N 0; flags = length-replicate N 0 } in
     let outward = set_index_out N (zero_words N) zeros two last in
@@ -132,4 +132,4 @@ first_lie N last two is =
     let same : 0 + N - 1 ≡ last = omega arith in
     let tail : last ≡ tail_of N 0 = sym (ap (λ n. n % N) same ∙ mod-eq_of_lt (omega arith)) in
     ap (λ ws. set (set ws (index_out_word N) last) (index_word N) last) (zeros_lie N) ∙ ap (λ ws. set ws (index_word N) last) outward.words ∙ homeward.words
-    ∙ (λ i. words_of (record (zero_words N) { index_out = tail i; index = tail i }))
+    ∙ (λ i. table_words_of (record (zero_words N) { index_out = tail i; index = tail i }))

@@ -4,7 +4,7 @@ use Rattle.std.specs.Prelude.{◌≡◌, ℕ, ◌+◌, ◌%◌, ◌<◌, ◌≤�
 use mathlib.Core.Option.{some, none}
 use mathlib.Core.Option as home
 use lib.ListN.{get_elem?}
-use Rattle.table_lane.specs.Views.{Bytes}
+use Rattle.table_lane.specs.Views.{TableBytes}
 
 -- Counts of entries that follow one another. Between two of them all slots are in the same place.
 pub record Borders : Type 0 where
@@ -24,19 +24,19 @@ pub record Borders : Type 0 where
   pub claimed : ℕ
 
 abbrev pub Slots : Type 0
-Slots = List (home.Option (Option Bytes))
+Slots = List (home.Option (Option TableBytes))
 
-abbrev pub empty : home.Option (Option Bytes)
+abbrev pub empty : home.Option (Option TableBytes)
 empty = some None
 
-abbrev pub out : home.Option (Option Bytes)
+abbrev pub out : home.Option (Option TableBytes)
 out = none
 
-abbrev pub full : List Bytes → ℕ → home.Option (Option Bytes)
+abbrev pub full : List TableBytes → ℕ → home.Option (Option TableBytes)
 full sent n = some (Some (slice_index_or sent n []))
 
 -- the slot of entry n, or of the entry N before it where n is still to be sent
-abbrev pub slot_at : Borders → List Bytes → ℕ → home.Option (Option Bytes)
+abbrev pub slot_at : Borders → List TableBytes → ℕ → home.Option (Option TableBytes)
 slot_at counts sent n =
     -- on its way back, or just cleared
     if nat_lt n counts.cleared then empty
@@ -53,6 +53,6 @@ slot_at counts sent n =
     -- the sender's
     else empty
 
-pub record SlotsStand (N : ℕ) (counts : Borders) (sent : List Bytes) (slots : Slots) : Type 0 where
+pub record TableSlotsStand (N : ℕ) (counts : Borders) (sent : List TableBytes) (slots : Slots) : Type 0 where
   pub count : length slots ≡ N
   pub at : (n : ℕ) → counts.freed ≤ n → n < counts.freed + N → get_elem? slots (n % N) ≡ some (slot_at counts sent n)

@@ -6,7 +6,7 @@ use Rattle.table_lane.specs.declared.parts.LaneView.{LaneView}
 use Rattle.table_lane.specs.Views.{the_send, the_move, the_recv, the_back, the_cut}
 use Rattle.table_lane.specs.ShownLane.{most_lane_frames}
 use Rattle.table_lane.specs.Table.{IsTableOf}
-use Rattle.table_lane.specs.Ends.{Sender, send_only, Mover, move_only, Receiver, recv_only, WayBack, back_only, Cutter, cut_only}
+use Rattle.table_lane.specs.Ends.{TableSender, send_only, Mover, move_only, TableReceiver, recv_only, WayBack, back_only, Cutter, cut_only}
 use Rattle.table_lane.specs.declared.board.Standing.{Standing}
 use Rattle.table_lane.specs.declared.send.SendEnd.TheInside as send
 use Rattle.table_lane.specs.declared.mover.MoveEnd.TheInside as mover
@@ -25,8 +25,8 @@ pub record HasAlone (view : LaneView) (known : ℕ) (at : Standing) : Type 0 whe
   pub me : at.seat.me ≡ (view, [])
   pub entries : known ≡ at.entries
 
-abbrev pub sender_of : send.Inside → Sender
-sender_of end = record { lane = end.at.seat.table_id; part = the_send end.at.seat.me.0 }
+abbrev pub table_sender_of : send.Inside → TableSender
+table_sender_of end = record { lane = end.at.seat.table_id; part = the_send end.at.seat.me.0 }
 
 -- the seat has the sender's part alone and no slot
 pub record IsSendEnd (end : send.Inside) : Type 0 where
@@ -65,8 +65,8 @@ pub record IsMoveEnd (end : mover.Inside) : Type 0 where
   pub first : end.first_position ≡ end.flagged % end.at.entries
   pub next : end.next_position ≡ end.taken % end.at.entries
 
-abbrev pub receiver_of : recv.Inside → Receiver
-receiver_of end = record { lane = end.at.seat.table_id; part = the_recv end.at.seat.me.0 }
+abbrev pub table_receiver_of : recv.Inside → TableReceiver
+table_receiver_of end = record { lane = end.at.seat.table_id; part = the_recv end.at.seat.me.0 }
 
 -- the seat has the receiver's part alone and no slot, and looks at no frame
 pub record IsRecvEnd (end : recv.Inside) : Type 0 where

@@ -24,7 +24,7 @@ pub record MovesNext (N n : ℕ) (part : MovePart) : Type 0 where
   pub no_marks : part.stored ≡ []
 
 -- the sender's part and the cut's are as before
-pub record OthersStay (before after : LaneView) : Type 0 where
+pub record TableOthersStay (before after : LaneView) : Type 0 where
   pub send : the_send after ≡ the_send before
   pub cut : the_cut after ≡ the_cut before
 
@@ -33,10 +33,10 @@ abbrev pub CutIsMade : LaneView → Type 0
 CutIsMade view = (the_send view).link ≡ cut_word → (the_cut view).cut ≡ true
 
 -- a seat goes on at its table with all parts, and the sender's and the cut's are as before
-pub record GoesOn (table_before table_after : TableId) (before after : Sitter) : Type 0 where
+pub record TableGoesOn (table_before table_after : TableId) (before after : Sitter) : Type 0 where
   pub table : table_after ≡ table_before
   pub all : HasAll after
-  pub others : OthersStay before.0 after.0
+  pub others : TableOthersStay before.0 after.0
 
 -- what a lane's proof shows: the frames that were sent, those that were received before the end, the number of
 -- entries, and whether the link was cut

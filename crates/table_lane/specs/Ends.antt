@@ -9,7 +9,7 @@ use Rattle.table_lane.specs.declared.parts.CutPart.{CutPart}
 use Rattle.table_lane.specs.declared.parts.LaneView.{LaneView}
 use Rattle.table_lane.specs.Views.{no_parts}
 
-pub record Sender : Type 0 where
+pub record TableSender : Type 0 where
   pub lane : TableId
   pub part : SendPart
 
@@ -17,7 +17,7 @@ pub record Mover : Type 0 where
   pub lane : TableId
   pub part : MovePart
 
-pub record Receiver : Type 0 where
+pub record TableReceiver : Type 0 where
   pub lane : TableId
   pub part : RecvPart
 

@@ -6,12 +6,12 @@ use mathlib.Core.Option.{some}
 use lib.ListN.{get_elem?}
 use Rattle.step_kinds.specs.Limits.{most_frame_bytes}
 use Rattle.table_lane.specs.LaneNames.{Lane, entry_of, done, free_entries, head_of, tail_of, Idle, Copying, Copied, Cleared}
-use Rattle.table_lane.specs.Words.{AreSized, header_of, cut_word}
-use Rattle.table_lane.specs.Views.{Bytes}
+use Rattle.table_lane.specs.Words.{AreSized, table_header_of, cut_word}
+use Rattle.table_lane.specs.Views.{TableBytes}
 use Rattle.table_lane.specs.Borders.{Slots, empty, out, full}
 use Rattle.table_lane.specs.ShownLane.{number_at, most_lane_frames}
 use Rattle.table_lane.specs.Moment.{Moment, ShowsLane}
-use Rattle.table_lane.specs.LaneNames.{Look, Copy, Clear, Acknowledge, Runs}
+use Rattle.table_lane.specs.LaneNames.{Look, Copy, Clear, Acknowledge, LaneRuns}
 use Rattle.table_lane.specs.LaneSteps.{send_steps, header_steps, flag_steps, index_steps}
 
 -- a sender that has no slot takes that of the next entry, where the index word shows room
@@ -21,28 +21,28 @@ Claims = (N : ℕ) (m : Moment) (slots : Slots) → m.send.claims ≡ false → 
 
 -- a sender that has the slot stores the posted header, and the slot is home with the frame
 abbrev pub Sends : Type 0
-Sends = (N : ℕ) (m : Moment) (slots : Slots) (frame : Bytes) → m.send.claims ≡ true → length frame ≤ most_frame_bytes → length m.send.sent < most_lane_frames → AreSized N m.words → ShowsLane N m slots
-    → (lane : Lane) × Runs (send_steps (length m.lane.sent) frame) m.lane lane
+Sends = (N : ℕ) (m : Moment) (slots : Slots) (frame : TableBytes) → m.send.claims ≡ true → length frame ≤ most_frame_bytes → length m.send.sent < most_lane_frames → AreSized N m.words → ShowsLane N m slots
+    → (lane : Lane) × LaneRuns (send_steps (length m.lane.sent) frame) m.lane lane
     × ShowsLane N
-    (record m { words = record m.words { posted = slice_set m.words.posted (length m.send.sent % N) (header_of (length m.send.sent)) }; lane = lane; send = record m.send { sent = m.send.sent ++ frame ∷ []; claims = false } })
+    (record m { words = record m.words { posted = slice_set m.words.posted (length m.send.sent % N) (table_header_of (length m.send.sent)) }; lane = lane; send = record m.send { sent = m.send.sent ++ frame ∷ []; claims = false } })
     (slice_set slots (length m.send.sent % N) (some (Some frame)))
 
 -- the mover takes the slot of the next entry, where its posted header is new
 abbrev pub Takes : Type 0
-Takes = (N : ℕ) (m : Moment) (slots : Slots) (n : ℕ) → n ≡ m.mover.flagged + length m.mover.held → slice_index m.words.posted (n % N) ≡ header_of n → ShowsLane N m slots
+Takes = (N : ℕ) (m : Moment) (slots : Slots) (n : ℕ) → n ≡ m.mover.flagged + length m.mover.held → slice_index m.words.posted (n % N) ≡ table_header_of n → ShowsLane N m slots
     → (n < length m.send.sent) × (get_elem? slots (n % N) ≡ some (full m.send.sent n))
     × ShowsLane N (record m { mover = record m.mover { held = m.mover.held ++ slice_index_or m.send.sent n [] ∷ []; stored = m.mover.stored ++ false ∷ [] } }) (slice_set slots (n % N) out)
 
 -- it stores the header of a held entry, which isn't stored yet
 abbrev pub StoresHeader : Type 0
 StoresHeader = (N : ℕ) (m : Moment) (slots : Slots) (j n : ℕ) → n ≡ m.mover.flagged + j → j < length m.mover.held → slice_index_or m.mover.stored j false ≡ false → ShowsLane N m slots
-    → (lane : Lane) × Runs (header_steps n (entry_of m.lane n)) m.lane lane
-    × ShowsLane N (record m { words = record m.words { headers = slice_set m.words.headers (n % N) (header_of n) }; lane = lane; mover = record m.mover { stored = slice_set m.mover.stored j true } }) slots
+    → (lane : Lane) × LaneRuns (header_steps n (entry_of m.lane n)) m.lane lane
+    × ShowsLane N (record m { words = record m.words { headers = slice_set m.words.headers (n % N) (table_header_of n) }; lane = lane; mover = record m.mover { stored = slice_set m.mover.stored j true } }) slots
 
 -- it stores the flag of the first held entry, whose header is stored, and the slot is home with the frame
 abbrev pub StoresFlag : Type 0
-StoresFlag = (N : ℕ) (m : Moment) (slots : Slots) (frame : Bytes) (held : List Bytes) (stored : List Bool) → m.mover.held ≡ frame ∷ held → m.mover.stored ≡ true ∷ stored → ShowsLane N m slots
-    → (lane : Lane) × Runs (flag_steps m.mover.flagged) m.lane lane
+StoresFlag = (N : ℕ) (m : Moment) (slots : Slots) (frame : TableBytes) (held : List TableBytes) (stored : List Bool) → m.mover.held ≡ frame ∷ held → m.mover.stored ≡ true ∷ stored → ShowsLane N m slots
+    → (lane : Lane) × LaneRuns (flag_steps m.mover.flagged) m.lane lane
     × ShowsLane N
     (record m { words = record m.words { flags = slice_set m.words.flags (m.mover.flagged % N) done }; lane = lane; mover = record m.mover { flagged = m.mover.flagged + 1; held = held; stored = stored } })
     (slice_set slots (m.mover.flagged % N) (some (Some frame)))
@@ -51,25 +51,25 @@ StoresFlag = (N : ℕ) (m : Moment) (slots : Slots) (frame : Bytes) (held : List
 abbrev pub Looks : Type 0
 Looks = (N : ℕ) (m : Moment) (slots : Slots) (n : ℕ) → n ≡ length m.recv.got → m.recv.phase ≡ Idle → slice_index m.words.flags (n % N) ≡ done → ShowsLane N m slots
     → (get_elem? slots (n % N) ≡ some (full m.send.sent n)) × (n < length m.send.sent)
-    × ((lane : Lane) × Runs (Look ∷ []) m.lane lane
+    × ((lane : Lane) × LaneRuns (Look ∷ []) m.lane lane
     × ShowsLane N (record m { lane = lane; recv = record m.recv { phase = Copying; hand = slice_index_or m.send.sent n [] ∷ [] } }) (slice_set slots (n % N) out))
 
 -- it loads the header, and has the frame: all copies, one after another
 abbrev pub Copies : Type 0
 Copies = (N : ℕ) (m : Moment) (slots : Slots) → m.recv.phase ≡ Copying → ShowsLane N m slots
-    → (more : ℕ) × (lane : Lane) × Runs (Copy ∷ replicate more Copy) m.lane lane
+    → (more : ℕ) × (lane : Lane) × LaneRuns (Copy ∷ replicate more Copy) m.lane lane
     × ShowsLane N (record m { lane = lane; recv = record m.recv { phase = Copied; got = m.recv.got ++ m.recv.hand; hand = [] } }) slots
 
 -- it clears the flag, and the slot is home and empty
 abbrev pub Clears : Type 0
 Clears = (N : ℕ) (m : Moment) (slots : Slots) (n : ℕ) → n + 1 ≡ length m.recv.got → m.recv.phase ≡ Copied → ShowsLane N m slots
-    → (lane : Lane) × Runs (Clear ∷ []) m.lane lane
+    → (lane : Lane) × LaneRuns (Clear ∷ []) m.lane lane
     × ShowsLane N (record m { words = record m.words { flags = slice_set m.words.flags (n % N) 0 }; lane = lane; recv = record m.recv { phase = Cleared } }) (slice_set slots (n % N) empty)
 
 -- it stores index out
 abbrev pub Acknowledges : Type 0
 Acknowledges = (N : ℕ) (m : Moment) (slots : Slots) (n : ℕ) → n + 1 ≡ length m.recv.got → m.recv.phase ≡ Cleared → ShowsLane N m slots
-    → (lane : Lane) × Runs (Acknowledge ∷ []) m.lane lane
+    → (lane : Lane) × LaneRuns (Acknowledge ∷ []) m.lane lane
     × ShowsLane N (record m { words = record m.words { index_out = n % N }; lane = lane; recv = record m.recv { phase = Idle } }) slots
 
 -- the way back loads index out
@@ -79,7 +79,7 @@ LoadsIndex = (N : ℕ) (m : Moment) (slots : Slots) → ShowsLane N m slots → 
 -- it stores the index that it loaded, where it is new
 abbrev pub StoresIndex : Type 0
 StoresIndex = (N : ℕ) (m : Moment) (slots : Slots) → m.back.index ≢ tail_of N m.back.freed → ShowsLane N m slots
-    → (lane : Lane) × Runs (index_steps m.lane.freed (number_at N m.back.freed m.back.index + 1 - m.lane.freed)) m.lane lane
+    → (lane : Lane) × LaneRuns (index_steps m.lane.freed (number_at N m.back.freed m.back.index + 1 - m.lane.freed)) m.lane lane
     × ShowsLane N (record m { words = record m.words { index = m.back.index }; lane = lane; back = record m.back { freed = number_at N m.back.freed m.back.index + 1 } }) slots
 
 -- the cut stores the link word

@@ -1,7 +1,7 @@
 -- How a step changes what a part knows.
 use Rattle.std.specs.Prelude.{ℕ, ◌+◌, ◌-◌, true, false, [], ◌∷◌, ◌++◌, length, drop, slice_set}
 use Rattle.table_lane.specs.LaneNames.{Idle, Copying, Copied, Cleared, free_entries, head_of}
-use Rattle.table_lane.specs.Views.{Bytes, SendPart, MovePart, RecvPart, BackPart, CutPart}
+use Rattle.table_lane.specs.Views.{TableBytes, SendPart, MovePart, RecvPart, BackPart, CutPart}
 use Rattle.table_lane.specs.ShownLane.{number_at}
 
 -- the sender loads the link word, or the index word
@@ -22,19 +22,19 @@ free_by part index = free_entries part.entries (head part) index
 abbrev pub slot_claimed : SendPart → SendPart
 slot_claimed part = record part { claims = true }
 
-abbrev pub frame_sent : SendPart → Bytes → SendPart
+abbrev pub frame_sent : SendPart → TableBytes → SendPart
 frame_sent part frame = record part { sent = part.sent ++ frame ∷ []; claims = false }
 
 -- the number of the entry that the mover takes next
-abbrev pub taken : MovePart → ℕ
-taken part = part.flagged + length part.held
+abbrev pub table_taken : MovePart → ℕ
+table_taken part = part.flagged + length part.held
 
 -- the mover loads a posted header, takes a frame, stores the header of entry n, stores the flags of the first held
 -- entry
 abbrev pub posted_loaded : MovePart → ℕ → MovePart
 posted_loaded part found = record part { loads = part.loads + 1; posted = found }
 
-abbrev pub frame_taken : MovePart → Bytes → MovePart
+abbrev pub frame_taken : MovePart → TableBytes → MovePart
 frame_taken part frame = record part { held = part.held ++ frame ∷ []; stored = part.stored ++ false ∷ [] }
 
 abbrev pub header_stored : MovePart → ℕ → MovePart
@@ -47,7 +47,7 @@ flag_stored part = record part { flagged = part.flagged + 1; held = drop 1 part.
 abbrev pub flag_loaded : RecvPart → ℕ → RecvPart
 flag_loaded part found = record part { loads = part.loads + 1; flag = found }
 
-abbrev pub frame_found : RecvPart → Bytes → RecvPart
+abbrev pub frame_found : RecvPart → TableBytes → RecvPart
 frame_found part frame = record part { phase = Copying; hand = frame ∷ [] }
 
 abbrev pub frame_copied : RecvPart → RecvPart

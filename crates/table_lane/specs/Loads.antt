@@ -9,7 +9,7 @@ use Rattle.table_lane.specs.Knowledge.{link_loaded, index_loaded, posted_loaded,
 use Rattle.table_lane.specs.Moment.{Moment, ShowsLane}
 use Rattle.table_lane.specs.Plays.{Tells, sees_link, sees_index, stores_posted, sees_posted, stores_header, stores_flag, sees_flag, copies_frame, clears_flag, stores_index_out, sees_index_out, stores_index, cuts_link}
 use Rattle.table_lane.specs.Rule.{Board, IsMoment, Sitter}
-use Rattle.table_lane.specs.Views.{LaneView, PartKind, alone, joined, no_parts, the_cut, without}
+use Rattle.table_lane.specs.Views.{LaneView, PartKind, alone, table_joined, no_parts, the_cut, without}
 
 -- The table shows the same lane after a load with which no slot goes to the seat: of the link word, the index word, a
 -- posted header or a flag. Of the link word the sender keeps what stands there.
@@ -33,8 +33,8 @@ SplitsAreNoSteps = (N : ℕ) (m : Moment) (board : Board) (id : ℕ) (view : Lan
 
 abbrev pub JoinsAreNoSteps : Type 0
 JoinsAreNoSteps = (N : ℕ) (m : Moment) (board : Board) (id other : ℕ) (view second : LaneView) → IsMoment N m board → other ≢ id
-    → get_elem? board.views id ≡ some view → get_elem? (slice_set board.views id (joined view second)) other ≡ some second
-    → IsMoment N m (record board { views = slice_set (slice_set board.views id (joined view second)) other no_parts })
+    → get_elem? board.views id ≡ some view → get_elem? (slice_set board.views id (table_joined view second)) other ≡ some second
+    → IsMoment N m (record board { views = slice_set (slice_set board.views id (table_joined view second)) other no_parts })
 
 -- a seat that knows of the cut still knows of it after a step
 abbrev pub KeepsCut : Tells → Type 0

@@ -1,8 +1,8 @@
 -- Which move the mover makes, and what it then knows.
 use Rattle.std.specs.Prelude.{◌≡◌, ◌==◌, ◌+◌, ◌%◌, ℕ, suc, Bool, true, false, MatchBool, MatchOption, if◌then◌else◌, List, [], ◌∷◌, ◌++◌, length, map, slice_get, slice_index_or}
 use Rattle.table_lane.specs.declared.parts.MovePart.{MovePart}
-use Rattle.table_lane.specs.Words.{header_of}
-use Rattle.table_lane.specs.Knowledge.{taken, posted_loaded, frame_taken, header_stored, flag_stored}
+use Rattle.table_lane.specs.Words.{table_header_of}
+use Rattle.table_lane.specs.Knowledge.{table_taken, posted_loaded, frame_taken, header_stored, flag_stored}
 use Rattle.table_lane.specs.declared.mover.MoveAnswer.{MoveAnswer}
 use Rattle.table_lane.specs.declared.mover.MoveAnswer.TheVariants.{Took, Header, Flag, Idle}
 
@@ -37,7 +37,7 @@ abbrev pub TakesOrMakes : List MoveAnswer → MovePart → MoveAnswer → MovePa
 TakesOrMakes moves before answer after =
     let found = after.posted in
     let seen = posted_loaded before found in
-    MatchBool (found == header_of (taken before)) ((answer ≡ Took (taken before)) × ((frame : List ℕ) × (after ≡ frame_taken seen frame))) (MakesFirst moves seen answer after)
+    MatchBool (found == table_header_of (table_taken before)) ((answer ≡ Took (table_taken before)) × ((frame : List ℕ) × (after ≡ frame_taken seen frame))) (MakesFirst moves seen answer after)
 
 -- of k open moves and the load, the one whose number is the choice modulo k + 1
 abbrev pub Moves : MovePart → ℕ → MoveAnswer → MovePart → Type 0

@@ -1,17 +1,17 @@
 -- The ends of a new lane.
 use Rattle.std.specs.Prelude.{◌≡◌, ℕ}
 use Rattle.table_lane.specs.Views.{new_send, new_move, new_recv, new_back, new_cut}
-use Rattle.table_lane.specs.Ends.{Sender, Mover, Receiver, WayBack, Cutter}
+use Rattle.table_lane.specs.Ends.{TableSender, Mover, TableReceiver, WayBack, Cutter}
 
 -- the ends stand at one table
-pub record AreOfOneLane (send : Sender) (mover : Mover) (recv : Receiver) (back : WayBack) (cut : Cutter) : Type 0 where
+pub record AreOfOneLane (send : TableSender) (mover : Mover) (recv : TableReceiver) (back : WayBack) (cut : Cutter) : Type 0 where
   pub with_mover : mover.lane ≡ send.lane
   pub with_recv : recv.lane ≡ send.lane
   pub with_back : back.lane ≡ send.lane
   pub with_cut : cut.lane ≡ send.lane
 
 -- and know nothing but the number of entries
-pub record AreNew (N : ℕ) (send : Sender) (mover : Mover) (recv : Receiver) (back : WayBack) (cut : Cutter) : Type 0 where
+pub record AreNew (N : ℕ) (send : TableSender) (mover : Mover) (recv : TableReceiver) (back : WayBack) (cut : Cutter) : Type 0 where
   pub of_one : AreOfOneLane send mover recv back cut
   pub new_sender : send.part ≡ new_send N
   pub new_mover : mover.part ≡ new_move N

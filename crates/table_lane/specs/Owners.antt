@@ -4,17 +4,17 @@ use mathlib.Core.Option.{some}
 use mathlib.Core.Option as home
 use lib.ListN.{get_elem?}
 use Rattle.table_lane.specs.LaneNames.{Owner, Sender, InFlight, Landed, Receiver, Returning, owner_of, is_copying, is_copied}
-use Rattle.table_lane.specs.Views.{Bytes}
+use Rattle.table_lane.specs.Views.{TableBytes}
 use Rattle.table_lane.specs.Borders.{Slots, empty, out, full}
-use Rattle.table_lane.specs.Knowledge.{taken}
+use Rattle.table_lane.specs.Knowledge.{table_taken}
 use Rattle.table_lane.specs.Moment.{Moment, ShowsLane}
 
 -- the slot of entry n, by its owner
-abbrev pub place_by : Owner → Moment → ℕ → home.Option (Option Bytes)
+abbrev pub place_by : Owner → Moment → ℕ → home.Option (Option TableBytes)
 -- the sender has it where it is to send the next entry in it
 place_by Sender m n = if m.send.claims && (n == length m.send.sent) then out else empty
 -- in flight it is at home with its frame until the mover takes it
-place_by InFlight m n = if nat_lt n (taken m.mover) then out else full m.send.sent n
+place_by InFlight m n = if nat_lt n (table_taken m.mover) then out else full m.send.sent n
 -- landed it is at home with its frame until the receiver looks at it
 place_by Landed m n = if is_copying m.recv.phase && (n == length m.recv.got) then out else full m.send.sent n
 -- the receiver has it until it clears the flag

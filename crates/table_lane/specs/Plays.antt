@@ -2,11 +2,11 @@
 use Rattle.std.specs.Prelude.{◌≡◌, ℕ, ◌+◌, ◌-◌, ◌%◌, ◌<◌, ◌≤◌, ◌==◌, nat_lt, true, List, [], ◌∷◌, length, take, Option, Some, None, IfSome, MatchBool, if◌then◌else◌}
 use Rattle.atomic_table.specs.Table.{rest}
 use Rattle.table_lane.specs.LaneNames.{done}
-use Rattle.table_lane.specs.Words.{header_of, cut_word, spacing}
-use Rattle.table_lane.specs.Views.{Bytes, SendPart, MovePart, RecvPart, CutPart, the_send, the_move, the_recv, the_back, the_cut, with_send, with_move, with_recv, with_back, with_cut}
+use Rattle.table_lane.specs.Words.{table_header_of, cut_word, spacing}
+use Rattle.table_lane.specs.Views.{TableBytes, SendPart, MovePart, RecvPart, CutPart, the_send, the_move, the_recv, the_back, the_cut, with_send, with_move, with_recv, with_back, with_cut}
 use Rattle.table_lane.specs.ShownLane.{number_at, most_lane_frames}
 use Rattle.table_lane.specs.Rule.{Content, Sitter}
-use Rattle.table_lane.specs.Knowledge.{link_loaded, index_loaded, head, free_by, slot_claimed, frame_sent, taken, posted_loaded, frame_taken, header_stored, flag_stored, flag_loaded, frame_found, frame_copied, flag_cleared, acknowledged, index_out_loaded, index_stored, link_cut}
+use Rattle.table_lane.specs.Knowledge.{link_loaded, index_loaded, head, free_by, slot_claimed, frame_sent, table_taken, posted_loaded, frame_taken, header_stored, flag_stored, flag_loaded, frame_found, frame_copied, flag_cleared, acknowledged, index_out_loaded, index_stored, link_cut}
 
 abbrev pub Tells : Type 1
 Tells = Sitter → ℕ → Sitter → Type 0
@@ -27,7 +27,7 @@ sees_index before found after =
     (after ≡ (with_send before.0 (index_loaded part found), before.1))
 
 -- the frame in the slot that a seat took last
-abbrev pub frame_in : List (ℕ × Content) → Bytes
+abbrev pub frame_in : List (ℕ × Content) → TableBytes
 frame_in [] = []
 frame_in ((slot, None) ∷ others) = []
 frame_in ((slot, Some frame) ∷ others) = frame
@@ -39,8 +39,8 @@ stores_posted before found after = after ≡ (with_send before.0 (frame_sent (th
 -- room for what is left
 abbrev pub KnowsSent : MovePart → ℕ → Option RecvPart → SendPart → Type 0
 KnowsSent part found recv send =
-    (taken part < length send.sent → found ≡ header_of (taken part))
-    × (found ≡ header_of (taken part) → taken part < length send.sent)
+    (table_taken part < length send.sent → found ≡ table_header_of (table_taken part))
+    × (found ≡ table_header_of (table_taken part) → table_taken part < length send.sent)
     × IfSome recv (λ r. length send.sent + 1 ≤ length r.got + part.entries)
 
 -- and who has the cut's part besides, that a cut which the sender has seen was made
@@ -51,10 +51,10 @@ SeenCutIsMade cut send = IfSome cut (λ c. send.link ≡ cut_word → c.cut ≡ 
 abbrev pub sees_posted : Tells
 sees_posted before found after =
     let part = the_move before.0 in
-    MatchBool (found == header_of (taken part))
-    ((frame : Bytes)
-    × (after ≡ (with_move before.0 (frame_taken (posted_loaded part found) frame), (taken part % part.entries, Some frame) ∷ before.1))
-    × (taken part < most_lane_frames) × (length part.held + 2 ≤ part.entries))
+    MatchBool (found == table_header_of (table_taken part))
+    ((frame : TableBytes)
+    × (after ≡ (with_move before.0 (frame_taken (posted_loaded part found) frame), (table_taken part % part.entries, Some frame) ∷ before.1))
+    × (table_taken part < most_lane_frames) × (length part.held + 2 ≤ part.entries))
     (after ≡ (with_move before.0 (posted_loaded part found), before.1))
     × IfSome before.0.send (KnowsSent part found before.0.recv) × IfSome before.0.send (SeenCutIsMade before.0.cut)
 
@@ -74,7 +74,7 @@ abbrev pub sees_flag : Tells
 sees_flag before found after =
     let part = the_recv before.0 in
     MatchBool (found == done)
-    ((frame : Bytes)
+    ((frame : TableBytes)
     × (after ≡ (with_recv before.0 (frame_found (flag_loaded part found) frame), (length part.got % part.entries, Some frame) ∷ before.1))
     × (length part.got < most_lane_frames))
     (after ≡ (with_recv before.0 (flag_loaded part found), before.1))
@@ -85,7 +85,7 @@ sees_flag before found after =
 abbrev pub copies_frame : Tells
 copies_frame before found after =
     let part = frame_copied (the_recv before.0) in
-    (after ≡ (with_recv before.0 part, before.1)) × (found ≡ header_of (length (the_recv before.0).got))
+    (after ≡ (with_recv before.0 part, before.1)) × (found ≡ table_header_of (length (the_recv before.0).got))
     × IfSome before.0.send (λ send. part.got ≡ take (length part.got) send.sent)
 
 abbrev pub clears_flag : Tells

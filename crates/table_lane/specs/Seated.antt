@@ -4,7 +4,7 @@ use mathlib.Core.Option.{some}
 use lib.ListN.{get_elem?}
 use Rattle.table_lane.specs.LaneNames.{is_copying, is_copied}
 use Rattle.table_lane.specs.Borders.{Slots, out}
-use Rattle.table_lane.specs.Knowledge.{taken}
+use Rattle.table_lane.specs.Knowledge.{table_taken}
 use Rattle.table_lane.specs.Moment.{Moment, ShowsLane}
 
 -- the sender has the slot of the next entry, to send a frame in it
@@ -13,7 +13,7 @@ SenderHas m n = (m.send.claims ≡ true) × (n ≡ length m.send.sent)
 
 -- the mover has those of the entries that it took, until it stores their flags
 abbrev pub MoverHas : Moment → ℕ → Type 0
-MoverHas m n = (m.mover.flagged ≤ n) × (n < taken m.mover)
+MoverHas m n = (m.mover.flagged ≤ n) × (n < table_taken m.mover)
 
 -- the receiver has that of the entry that it looked at, until it clears the flag
 abbrev pub ReceiverHas : Moment → ℕ → Type 0

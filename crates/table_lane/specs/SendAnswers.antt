@@ -20,5 +20,5 @@ after_send part frame link index =
     else index_loaded (link_loaded part link) index
 
 -- the last loads of a sender are those of this call, wherever it made them
-abbrev pub Sends : SendPart → List ℕ → SendAnswer → SendPart → Type 0
-Sends before frame answer after = (answer ≡ send_answer before frame after.link after.index) × (after ≡ after_send before frame after.link after.index)
+abbrev pub TableSends : SendPart → List ℕ → SendAnswer → SendPart → Type 0
+TableSends before frame answer after = (answer ≡ send_answer before frame after.link after.index) × (after ≡ after_send before frame after.link after.index)

@@ -2,18 +2,18 @@
 use Rattle.std.specs.Prelude.{◌≡◌, ℕ, suc, ◌+◌, ◌-◌, ◌%◌, ◌^◌, ◌<◌, ◌≤◌, Bool, true, false, List, [], ◌∷◌, ◌++◌, length, map, take, drop, slice_index, slice_index_or, if◌then◌else◌, nat_lt, ◌⊎◌}
 use Rattle.step_kinds.specs.Limits.{most_count, most_frame_bytes, most_traffic_entries}
 use Rattle.table_lane.specs.LaneNames.{tail_of, Entry, entry_of_frame, Write, Flag, Bell, data_of, Slot, Lane, HoldsRingLaw, Phase, Idle, Copying, Copied, Cleared}
-use Rattle.table_lane.specs.Words.{Words, header_of, cut_word}
-use Rattle.table_lane.specs.Views.{Bytes}
-use Rattle.table_lane.specs.Borders.{Borders, Slots, SlotsStand}
+use Rattle.table_lane.specs.Words.{Words, table_header_of, cut_word}
+use Rattle.table_lane.specs.Views.{TableBytes}
+use Rattle.table_lane.specs.Borders.{Borders, Slots, TableSlotsStand}
 
 -- What is on its way of the entries from number n on: all writes of each, without its fields where its header is
 -- stored.
-abbrev pub in_flight : ℕ → List Bool → List Entry → List Write
-in_flight n stored [] = []
-in_flight n stored (entry ∷ entries) = (if slice_index_or stored 0 false then [] else data_of n entry) ++ Flag n ∷ Bell ∷ in_flight (suc n) (drop 1 stored) entries
+abbrev pub table_in_flight : ℕ → List Bool → List Entry → List Write
+table_in_flight n stored [] = []
+table_in_flight n stored (entry ∷ entries) = (if slice_index_or stored 0 false then [] else data_of n entry) ++ Flag n ∷ Bell ∷ table_in_flight (suc n) (drop 1 stored) entries
 
 -- a ring of N entries that is never cut: a cut word refuses frames, and all else goes on
-pub record IsLaneOf (N : ℕ) (lane : Lane) : Type 0 where
+pub record IsTableLane (N : ℕ) (lane : Lane) : Type 0 where
   pub entries : lane.entries ≡ N
   pub largest : lane.largest ≡ most_frame_bytes
   pub up : lane.up ≡ true
@@ -21,17 +21,17 @@ pub record IsLaneOf (N : ℕ) (lane : Lane) : Type 0 where
   pub small : N ≤ most_traffic_entries
 
 -- the counts, the frames and the list in flight of the lane are those of the parts
-pub record PartsSay (lane : Lane) (sent : List Bytes) (flagged : ℕ) (stored : List Bool) (got : ℕ) (phase : Phase) (freed : ℕ) : Type 0 where
+pub record PartsSay (lane : Lane) (sent : List TableBytes) (flagged : ℕ) (stored : List Bool) (got : ℕ) (phase : Phase) (freed : ℕ) : Type 0 where
   pub entries : lane.sent ≡ map entry_of_frame sent
   pub whole : lane.flagged ≡ flagged
-  pub flight : lane.flight ≡ in_flight flagged stored (drop flagged lane.sent)
+  pub flight : lane.flight ≡ table_in_flight flagged stored (drop flagged lane.sent)
   pub copied : lane.got ≡ got
   pub stage : lane.phase ≡ phase
   pub given_back : lane.freed ≡ freed
 
 -- posted headers: of the newest entry at each position
 pub record PostedStand (N : ℕ) (posted : List ℕ) (sent : ℕ) : Type 0 where
-  pub newest : (n : ℕ) → n < sent → sent ≤ n + N → slice_index posted (n % N) ≡ header_of n
+  pub newest : (n : ℕ) → n < sent → sent ≤ n + N → slice_index posted (n % N) ≡ table_header_of n
   pub never : (position : ℕ) → sent ≤ position → position < N → slice_index posted position ≡ 0
 
 -- whether the header of an entry is stored: its flag is stored, or the mover holds it with that mark
@@ -40,7 +40,7 @@ header_stands flagged stored n = if nat_lt n flagged then true else slice_index_
 
 -- headers: of the newest stored entry at each position
 pub record HeadersStand (N : ℕ) (headers : List ℕ) (flagged : ℕ) (stored : List Bool) : Type 0 where
-  pub newest : (n : ℕ) → header_stands flagged stored n ≡ true → header_stands flagged stored (n + N) ≡ false → slice_index headers (n % N) ≡ header_of n
+  pub newest : (n : ℕ) → header_stands flagged stored n ≡ true → header_stands flagged stored (n + N) ≡ false → slice_index headers (n % N) ≡ table_header_of n
   pub never : (position : ℕ) → position < N → header_stands flagged stored position ≡ false → slice_index headers position ≡ 0
 
 -- the ring of the lane has the low 32 bits of the headers for versions, and the flags; its payloads are in the slots
@@ -61,7 +61,7 @@ pub record IndexStands (N : ℕ) (index_out index : ℕ) (acked freed loaded : �
   pub last_load : (loaded ≡ tail_of N freed) ⊎ (number_at N freed loaded < acked)
 
 -- the mover holds the next frames, each with its mark
-pub record HeldStand (sent : List Bytes) (flagged : ℕ) (held : List Bytes) (stored : List Bool) : Type 0 where
+pub record HeldStand (sent : List TableBytes) (flagged : ℕ) (held : List TableBytes) (stored : List Bool) : Type 0 where
   pub frames : (k : ℕ) → k < length held → slice_index_or held k [] ≡ slice_index_or sent (flagged + k) []
   pub within : flagged + length held ≤ length sent
   pub marks : length stored ≡ length held
@@ -74,7 +74,7 @@ hand_in Copied = 0
 hand_in Cleared = 0
 
 -- what was received, and what is in hand, are the first frames that were sent
-pub record GotStands (sent got hand : List Bytes) (phase : Phase) : Type 0 where
+pub record GotStands (sent got hand : List TableBytes) (phase : Phase) : Type 0 where
   pub prefix : got ++ hand ≡ take (length got + length hand) sent
   pub in_hand : length hand ≡ hand_in phase
 
@@ -96,10 +96,10 @@ borders_of freed cleared looked flagged taken sent claims =
     record { freed = freed; cleared = cleared; looked = looked; flagged = flagged; taken = taken; sent = sent; claimed = claimed_by sent claims }
 
 -- All of it. The law of the ring holds of the lane.
-pub record Shows (N : ℕ) (words : Words) (lane : Lane) (sent : List Bytes) (claims : Bool) (flagged : ℕ) (held : List Bytes) (stored : List Bool)
-    (got hand : List Bytes) (phase : Phase) (freed loaded seen : ℕ) (cut : Bool) (slots : Slots) : Type 0 where
+pub record Shows (N : ℕ) (words : Words) (lane : Lane) (sent : List TableBytes) (claims : Bool) (flagged : ℕ) (held : List TableBytes) (stored : List Bool)
+    (got hand : List TableBytes) (phase : Phase) (freed loaded seen : ℕ) (cut : Bool) (slots : Slots) : Type 0 where
   pub law : HoldsRingLaw lane
-  pub of : IsLaneOf N lane
+  pub of : IsTableLane N lane
   pub parts : PartsSay lane sent flagged stored (length got) phase freed
   pub posted : PostedStand N words.posted (length sent)
   pub headers : HeadersStand N words.headers flagged stored
@@ -111,4 +111,4 @@ pub record Shows (N : ℕ) (words : Words) (lane : Lane) (sent : List Bytes) (cl
   pub holding : HeldStand sent flagged held stored
   pub receiving : GotStands sent got hand phase
   pub room : RoomStands N (length sent) claims freed
-  pub places : SlotsStand N (borders_of freed lane.cleared (length got + length hand) flagged (flagged + length held) (length sent) claims) sent slots
+  pub places : TableSlotsStand N (borders_of freed lane.cleared (length got + length hand) flagged (flagged + length held) (length sent) claims) sent slots

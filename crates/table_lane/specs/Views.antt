@@ -10,8 +10,8 @@ pub use Rattle.table_lane.specs.declared.parts.CutPart.{CutPart}
 pub use Rattle.table_lane.specs.declared.parts.LaneView.{LaneView}
 
 -- a frame is the list of its bytes
-abbrev pub Bytes : Type 0
-Bytes = List ℕ
+abbrev pub TableBytes : Type 0
+TableBytes = List ℕ
 
 -- the parts as a lane begins
 abbrev pub new_send : ℕ → SendPart
@@ -93,8 +93,8 @@ abbrev pub first_of : {P : Type 0} → Option P → Option P → Option P
 first_of None second = second
 first_of (Some part) second = Some part
 
-abbrev pub joined : LaneView → LaneView → LaneView
-joined view other = record {
+abbrev pub table_joined : LaneView → LaneView → LaneView
+table_joined view other = record {
   send = first_of view.send other.send;
   mover = first_of view.mover other.mover;
   recv = first_of view.recv other.recv;

@@ -24,8 +24,8 @@ abbrev pub spaced : List ℕ → List ℕ
 spaced words = words ++ replicate spacing 0
 
 -- how they lie in the table
-abbrev pub words_of : Words → List ℕ
-words_of words = spaced words.posted ++ (spaced words.headers ++ (spaced words.flags ++ (spaced (words.index_out ∷ []) ++ (spaced (words.index ∷ []) ++ spaced (words.link ∷ [])))))
+abbrev pub table_words_of : Words → List ℕ
+table_words_of words = spaced words.posted ++ (spaced words.headers ++ (spaced words.flags ++ (spaced (words.index_out ∷ []) ++ (spaced (words.index ∷ []) ++ spaced (words.link ∷ [])))))
 
 -- the numbers of the words
 abbrev pub posted_word : ℕ → ℕ → ℕ
@@ -50,8 +50,8 @@ abbrev pub words_in : ℕ → ℕ
 words_in N = link_word N + (1 + spacing)
 
 -- the header of entry n: its version, with a bit above that tells it from a word that was never stored
-abbrev pub header_of : ℕ → ℕ
-header_of n = 2 ^ 32 + version_of n
+abbrev pub table_header_of : ℕ → ℕ
+table_header_of n = 2 ^ 32 + version_of n
 
 -- the link word
 abbrev pub cut_word : ℕ

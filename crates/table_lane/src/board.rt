@@ -2,7 +2,7 @@
 ghost use Rattle.std.specs.Prelude.{◌≡◌, ◌+◌, ◌*◌, ◌%◌, ◌≤◌, ◌<◌, ℕ, IfOk};
 ghost use Rattle.std.specs.Arc.{arc_value};
 ghost use Rattle.step_kinds.specs.Limits.{most_traffic_entries};
-ghost use Rattle.table_lane.specs.Words.{spacing, index_out_word, index_word, link_word, words_in, header_of};
+ghost use Rattle.table_lane.specs.Words.{spacing, index_out_word, index_word, link_word, words_in, table_header_of};
 
 use crate::parts::LaneView;
 use crate::rule::LaneRule;
@@ -52,7 +52,7 @@ const SPACING: u64 = 15;
 
 /// Returns the header of entry `n`.
 pub(crate) fn header_of(n: u64) -> u64
-    ensures { result ≡ header_of n }
+    ensures { result ≡ table_header_of n }
 {
     (1 << 32) + n % (1 << 32)
 }

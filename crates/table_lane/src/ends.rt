@@ -3,7 +3,7 @@ ghost use Rattle.std.specs.Prelude.{◌≡◌, ◌≤◌, ◌<◌, [], IfOk};
 ghost use Rattle.std.specs.Arc.{arc_value};
 ghost use Rattle.step_kinds.specs.Limits.{most_traffic_entries};
 ghost use Rattle.table_lane.specs.Views.{all_parts, OfMover, OfReceiver, OfWayBack, OfCut, without, alone};
-ghost use Rattle.table_lane.specs.Words.{first_words, words_of};
+ghost use Rattle.table_lane.specs.Words.{first_words, table_words_of};
 ghost use Rattle.table_lane.specs.NewEnds.{AreNew};
 ghost use Rattle.table_lane.specs.Table.{IsTableOf};
 
@@ -30,7 +30,7 @@ type FourTables = (
 // Returns the words of a new table: all 0, but both indices name the last position.
 fn start_words(alloc: Global, entries: u64) -> Result<Vec<u64>, AllocError>
     requires { (2 ≤ entries) × (entries ≤ most_traffic_entries) }
-    ensures { IfOk result (λ words. words.items ≡ words_of (first_words entries)) }
+    ensures { IfOk result (λ words. words.items ≡ table_words_of (first_words entries)) }
 {
     let mut words = vec![in alloc; 0; words_in(entries)]?;
     words[index_out_word(entries)] = entries - 1;

@@ -1,12 +1,12 @@
 //! The end of a lane: its five ends become one, and what is left in the ring comes out.
 ghost use Rattle.std.specs.Prelude.{◌≡◌, ◌≤◌, ◌<◌, ◌+◌, ◌++◌, true, [], length, IfSome, MatchBool};
-ghost use Rattle.table_lane.specs.Views.{joined, the_send, the_move, the_recv, the_cut};
+ghost use Rattle.table_lane.specs.Views.{table_joined, the_send, the_move, the_recv, the_cut};
 ghost use Rattle.table_lane.specs.Words.{cut_word};
 ghost use Rattle.table_lane.specs.ShownLane.{most_lane_frames};
 ghost use Rattle.table_lane.specs.Table.{IsTableOf};
 ghost use Rattle.table_lane.specs.NewEnds.{AreOfOneLane};
 ghost use Rattle.table_lane.specs.RecvAnswers.{IsReady};
-ghost use Rattle.table_lane.specs.EndOfLane.{CutIsMade, HasAll, MovesNext, OthersStay, shown_by};
+ghost use Rattle.table_lane.specs.EndOfLane.{CutIsMade, HasAll, MovesNext, TableOthersStay, shown_by};
 
 use crate::back::{BackEnd, CutEnd};
 use crate::board::{Board, LaneSeat, Standing, header_of, position_of};
@@ -56,7 +56,7 @@ fn move_next(board: &Board, seat: &mut LaneSeat, entries: u64, number: u64) -> b
     requires table { (seat.old.table_id ≡ board.now.table_id) × IsTableOf entries board.now.table_id board.now.key }
     requires parts { HasAll seat.old.me × MovesNext entries number (the_move seat.old.me.0) }
     ensures table { seat.new.table_id ≡ seat.old.table_id }
-    ensures parts { HasAll seat.new.me × OthersStay seat.old.me.0 seat.new.me.0 × (the_recv seat.new.me.0 ≡ the_recv seat.old.me.0) }
+    ensures parts { HasAll seat.new.me × TableOthersStay seat.old.me.0 seat.new.me.0 × (the_recv seat.new.me.0 ≡ the_recv seat.old.me.0) }
     ensures moved { MatchBool result
         ((number < length (the_send seat.old.me.0).sent) × (number < most_lane_frames) × MovesNext entries (number + 1) (the_move seat.new.me.0))
         ((length (the_send seat.old.me.0).sent ≤ number) × (length (the_send seat.old.me.0).sent + 1 ≤ length (the_recv seat.old.me.0).got + entries) × MovesNext entries number (the_move seat.new.me.0)) }
@@ -76,7 +76,7 @@ fn move_all(board: &Board, seat: &mut LaneSeat, entries: u64, from: u64)
     requires table { (seat.old.table_id ≡ board.now.table_id) × IsTableOf entries board.now.table_id board.now.key }
     requires parts { HasAll seat.old.me × MovesNext entries from (the_move seat.old.me.0) }
     ensures table { seat.new.table_id ≡ seat.old.table_id }
-    ensures parts { HasAll seat.new.me × OthersStay seat.old.me.0 seat.new.me.0 × (the_recv seat.new.me.0 ≡ the_recv seat.old.me.0) }
+    ensures parts { HasAll seat.new.me × TableOthersStay seat.old.me.0 seat.new.me.0 × (the_recv seat.new.me.0 ≡ the_recv seat.old.me.0) }
     ensures moved { length (the_send seat.old.me.0).sent ≤ (the_move seat.new.me.0).flagged }
     ensures room { length (the_send seat.old.me.0).sent + 1 ≤ length (the_recv seat.old.me.0).got + entries }
     ensures seen { CutIsMade seat.old.me.0 }
@@ -92,7 +92,7 @@ fn drain(board: &Board, seat: &mut LaneSeat, entries: u64, got: u64, left: &mut 
     requires table { (seat.old.table_id ≡ board.now.table_id) × IsTableOf entries board.now.table_id board.now.key }
     requires parts { HasAll seat.old.me × IsReady entries got (the_recv seat.old.me.0) × (length (the_send seat.old.me.0).sent ≤ (the_move seat.old.me.0).flagged) }
     requires room { (length (the_send seat.old.me.0).sent + 1 ≤ length (the_recv seat.old.me.0).got + entries) × (left.old.frames ≡ []) × (entries ≤ left.old.spare + 1) }
-    ensures parts { HasAll seat.new.me × OthersStay seat.old.me.0 seat.new.me.0 }
+    ensures parts { HasAll seat.new.me × TableOthersStay seat.old.me.0 seat.new.me.0 }
     ensures got { (the_recv seat.new.me.0).got ≡ (the_recv seat.old.me.0).got ++ left.new.frames }
     ensures all { (the_recv seat.new.me.0).got ≡ (the_send seat.old.me.0).sent }
 {
@@ -115,7 +115,7 @@ fn join_all(
     requires table { (send.table_id ≡ board.now.table_id) × (mover.table_id ≡ board.now.table_id) × (recv.table_id ≡ board.now.table_id) × (back.table_id ≡ board.now.table_id) × (cut.table_id ≡ board.now.table_id) × (0 < board.now.table_id.words) }
     requires no_slots { (mover.me.1 ≡ []) × (recv.me.1 ≡ []) × (back.me.1 ≡ []) × (cut.me.1 ≡ []) }
     ensures table { result.table_id ≡ board.now.table_id }
-    ensures me { result.me ≡ (joined (joined (joined (joined send.me.0 mover.me.0) recv.me.0) back.me.0) cut.me.0, send.me.1) }
+    ensures me { result.me ≡ (table_joined (table_joined (table_joined (table_joined send.me.0 mover.me.0) recv.me.0) back.me.0) cut.me.0, send.me.1) }
 {
     let mut all = send;
     board.join_seat::<JoinsSeats>(&mut all, mover);

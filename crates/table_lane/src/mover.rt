@@ -1,7 +1,7 @@
 //! The mover's end.
 ghost use Rattle.std.specs.Prelude.{◌≡◌, ◌+◌, ◌%◌, ◌<◌, ◌==◌, true, false, List, [], ℕ, length, slice_get, slice_index, slice_index_or, MatchBool, Some};
-ghost use Rattle.table_lane.specs.Words.{header_of};
-ghost use Rattle.table_lane.specs.Knowledge.{taken, posted_loaded, frame_taken, header_stored, flag_stored};
+ghost use Rattle.table_lane.specs.Words.{table_header_of};
+ghost use Rattle.table_lane.specs.Knowledge.{table_taken, posted_loaded, frame_taken, header_stored, flag_stored};
 ghost use Rattle.table_lane.specs.MoveChoice.{waiting, open_moves, Makes, Moves};
 ghost use Rattle.table_lane.specs.declared.mover.MoveAnswer.{MoveAnswer};
 
@@ -102,7 +102,7 @@ impl MoveEnd {
     // Loads the posted header of the next entry, and takes the entry where it is new.
     fn take_posted(&mut self) -> bool
         ensures lane { self.new.lane ≡ self.old.lane }
-        ensures found { result ≡ (self.new.part.posted == header_of (taken self.old.part)) }
+        ensures found { result ≡ (self.new.part.posted == table_header_of (table_taken self.old.part)) }
         ensures knows { let seen = posted_loaded self.old.part self.new.part.posted in MatchBool result ((frame : List ℕ) × (self.new.part ≡ frame_taken seen frame)) (self.new.part ≡ seen) }
     {
         let number = self.taken;

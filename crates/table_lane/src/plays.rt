@@ -139,9 +139,9 @@ impl<P: Part> Split<LaneView> for SplitsOff<P> {
 pub struct JoinsSeats;
 
 impl Join<LaneView> for JoinsSeats {
-    ghost use Rattle.table_lane.specs.Views.{joined, no_parts};
+    ghost use Rattle.table_lane.specs.Views.{table_joined, no_parts};
 
-    ghost both = { joined };
+    ghost both = { table_joined };
 
     ghost spent = { no_parts };
 }

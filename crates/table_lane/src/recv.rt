@@ -80,13 +80,13 @@ impl RecvEnd {
 }
 
 impl Model for RecvEnd {
-    ghost use Rattle.table_lane.specs.Ends.{Receiver};
+    ghost use Rattle.table_lane.specs.Ends.{TableReceiver};
 
-    ghost Value = { Receiver };
+    ghost Value = { TableReceiver };
 
-    ghost use Rattle.table_lane.specs.EndFields.{receiver_of, IsRecvEnd};
+    ghost use Rattle.table_lane.specs.EndFields.{table_receiver_of, IsRecvEnd};
 
-    ghost view = { receiver_of };
+    ghost view = { table_receiver_of };
 
     ghost invariant = { IsRecvEnd };
 }

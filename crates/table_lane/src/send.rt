@@ -3,7 +3,7 @@ ghost use Rattle.std.specs.Prelude.{◌≡◌, ◌≢◌, ◌<◌, ◌≤◌, []
 ghost use Rattle.step_kinds.specs.Limits.{most_frame_bytes, most_traffic_entries};
 ghost use Rattle.table_lane.specs.LaneNames.{free_entries};
 ghost use Rattle.table_lane.specs.ShownLane.{most_lane_frames};
-ghost use Rattle.table_lane.specs.SendAnswers.{Sends};
+ghost use Rattle.table_lane.specs.SendAnswers.{TableSends};
 
 use crate::board::{CUT, Standing, position_after};
 use crate::steps::{load_index, load_link, post_frame};
@@ -61,7 +61,7 @@ impl SendEnd {
         requires byte { frame ≢ [] }
         requires counted { length self.old.part.sent < most_lane_frames }
         ensures lane { self.new.lane ≡ self.old.lane }
-        ensures sends { Sends self.old.part frame result self.new.part }
+        ensures sends { TableSends self.old.part frame result self.new.part }
     {
         let board = &self.at.table.shared;
         let entries = self.at.entries;
@@ -87,13 +87,13 @@ impl SendEnd {
 }
 
 impl Model for SendEnd {
-    ghost use Rattle.table_lane.specs.Ends.{Sender};
+    ghost use Rattle.table_lane.specs.Ends.{TableSender};
 
-    ghost Value = { Sender };
+    ghost Value = { TableSender };
 
-    ghost use Rattle.table_lane.specs.EndFields.{sender_of, IsSendEnd};
+    ghost use Rattle.table_lane.specs.EndFields.{table_sender_of, IsSendEnd};
 
-    ghost view = { sender_of };
+    ghost view = { table_sender_of };
 
     ghost invariant = { IsSendEnd };
 }

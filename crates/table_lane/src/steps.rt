@@ -4,8 +4,8 @@ ghost use Rattle.std.specs.Prelude.{◌≡◌, ◌≢◌, ℕ, ◌+◌, ◌-◌,
 ghost use Rattle.atomic_table.specs.Table.{rest};
 ghost use Rattle.step_kinds.specs.Limits.{most_frame_bytes};
 ghost use Rattle.table_lane.specs.LaneNames.{Idle, Copying, Copied, Cleared, tail_of};
-ghost use Rattle.table_lane.specs.Views.{Bytes, HasSend, HasMove, HasRecv, HasBack, HasCut, the_send, the_move, the_recv, the_back, the_cut, with_send, with_move};
-ghost use Rattle.table_lane.specs.Knowledge.{frame_sent, header_stored, taken};
+ghost use Rattle.table_lane.specs.Views.{TableBytes, HasSend, HasMove, HasRecv, HasBack, HasCut, the_send, the_move, the_recv, the_back, the_cut, with_send, with_move};
+ghost use Rattle.table_lane.specs.Knowledge.{frame_sent, header_stored, table_taken};
 ghost use Rattle.table_lane.specs.Rule.{Content};
 ghost use Rattle.table_lane.specs.Plays.{sees_link, sees_index, stores_posted, sees_posted, stores_flag, sees_flag, copies_frame, clears_flag, stores_index_out, sees_index_out, stores_index, cuts_link};
 ghost use Rattle.table_lane.specs.Words.{cut_word};
@@ -64,7 +64,7 @@ pub(crate) fn post_frame(
 // The mover loads the posted header of the next entry, and takes its slot where it is new.
 pub(crate) fn load_posted(table: &Board, seat: &mut LaneSeat, entries: u64, position: u64) -> u64
     requires table { (seat.old.table_id ≡ table.now.table_id) × IsTableOf entries table.now.table_id table.now.key }
-    requires part { HasMove seat.old.me.0 × (position ≡ taken (the_move seat.old.me.0) % entries) }
+    requires part { HasMove seat.old.me.0 × (position ≡ table_taken (the_move seat.old.me.0) % entries) }
     ensures { StepTells sees_posted seat.old result seat.new }
 {
     table.load::<SeesPosted>(seat, posted_word(entries, position))
@@ -74,7 +74,7 @@ pub(crate) fn load_posted(table: &Board, seat: &mut LaneSeat, entries: u64, posi
 pub(crate) fn store_header(table: &Board, seat: &mut LaneSeat, entries: u64, n: u64, position: u64)
     requires table { (seat.old.table_id ≡ table.now.table_id) × IsTableOf entries table.now.table_id table.now.key }
     requires part { HasMove seat.old.me.0 × ((the_move seat.old.me.0).entries ≡ entries) × (position ≡ n % entries) }
-    requires held { ((the_move seat.old.me.0).flagged ≤ n) × (n < taken (the_move seat.old.me.0)) × (length (the_move seat.old.me.0).held ≤ entries) × (slice_index_or (the_move seat.old.me.0).stored (n - (the_move seat.old.me.0).flagged) false ≡ false) }
+    requires held { ((the_move seat.old.me.0).flagged ≤ n) × (n < table_taken (the_move seat.old.me.0)) × (length (the_move seat.old.me.0).held ≤ entries) × (slice_index_or (the_move seat.old.me.0).stored (n - (the_move seat.old.me.0).flagged) false ≡ false) }
     ensures table { seat.new.table_id ≡ seat.old.table_id }
     ensures knows { seat.new.me ≡ (with_move seat.old.me.0 (header_stored (the_move seat.old.me.0) n), seat.old.me.1) }
 {
@@ -85,7 +85,7 @@ pub(crate) fn store_header(table: &Board, seat: &mut LaneSeat, entries: u64, n: 
 pub(crate) fn store_flag(table: &Board, seat: &mut LaneSeat, entries: u64, position: u64)
     requires table { (seat.old.table_id ≡ table.now.table_id) × IsTableOf entries table.now.table_id table.now.key }
     requires part { HasMove seat.old.me.0 × (position ≡ (the_move seat.old.me.0).flagged % entries) }
-    requires held { (frame : Bytes) × (seat.old.me.1 ≡ (position, Some frame) ∷ rest seat.old.me.1) × ((the_move seat.old.me.0).held ≡ frame ∷ drop 1 (the_move seat.old.me.0).held) × ((the_move seat.old.me.0).stored ≡ true ∷ drop 1 (the_move seat.old.me.0).stored) }
+    requires held { (frame : TableBytes) × (seat.old.me.1 ≡ (position, Some frame) ∷ rest seat.old.me.1) × ((the_move seat.old.me.0).held ≡ frame ∷ drop 1 (the_move seat.old.me.0).held) × ((the_move seat.old.me.0).stored ≡ true ∷ drop 1 (the_move seat.old.me.0).stored) }
     ensures { StepTells stores_flag seat.old 1 seat.new }
 {
     table.store::<StoresFlag>(seat, flag_word(entries, position), DONE);

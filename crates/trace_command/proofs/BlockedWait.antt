@@ -20,7 +20,7 @@ use Rattle.pair_model.specs.Orders.{class_of, classes_of, kind_of, order_of}
 use Rattle.pair_model.specs.Plans.{pair_plan}
 use Rattle.ledger_model.specs.Log.{ledger_of, log_of}
 use Rattle.ledger_laws.proofs.Facade.{answer_of}
-use Rattle.trace_command.specs.Writes.{last_of_class, no_write, number_at, write_at}
+use Rattle.trace_command.specs.Writes.{last_of_class, no_write, trace_number_at, write_at}
 use Rattle.trace_command.specs.declared.writes.FlyingWrite.{FlyingWrite}
 use Rattle.trace_command.specs.Laws.{BlockedLandingsWait, flying_labels, side_writes}
 use Rattle.trace_command.proofs.AnswersFit.{IsBlocked, blocked_there}
@@ -65,7 +65,7 @@ none_has classes class labels = list_all (λ label. not (class == class_of class
 record LastOf (classes : List ℕ) (class : ℕ) (writes : List FlyingWrite) (flight : List Label) (place : ℕ) : Type 0 where
   earlier : ℕ
   before : earlier < place
-  named : number_at writes earlier ≡ last_of_class class (take place writes)
+  named : trace_number_at writes earlier ≡ last_of_class class (take place writes)
   same : class == class_of classes (slice_index_or flight earlier (Pad 0 0)) ≡ true
 
 last_found : (classes : List ℕ) (class : ℕ) (writes : List FlyingWrite) (flight : List Label) (place : ℕ)
@@ -95,11 +95,11 @@ last_found classes class writes flight (suc place) e within some =
         ap (λ c. c == class) (class_there classes writes flight place here e (slice_get-get_or flight place (Pad 0 0) (omega arith)))
         ∙ eqb-swap (class_of classes here) class
 
-    named : last_of_class class (take (suc place) writes) ≡ (if class == class_of classes here then number_at writes place else last_of_class class (take place writes))
+    named : last_of_class class (take (suc place) writes) ≡ (if class == class_of classes here then trace_number_at writes place else last_of_class class (take place writes))
     named =
         ap (λ n. last_of_class class (take n writes)) on
         ∙ fold_more (λ (found : ℕ) (write : FlyingWrite). if write.class == class then write.number else found) 0 writes place no_write there_too
-        ∙ ap (λ b. if b then number_at writes place else last_of_class class (take place writes)) test
+        ∙ ap (λ b. if b then trace_number_at writes place else last_of_class class (take place writes)) test
 
     go : (b : Bool) → class == class_of classes here ≡ b
         → (none_has classes class (take place flight) ≡ false → LastOf classes class writes flight place)
@@ -108,7 +108,7 @@ last_found classes class writes flight (suc place) e within some =
     go true is found some = record {
       earlier = place;
       before = omega arith;
-      named = sym (named ∙ ap (λ b. if b then number_at writes place else last_of_class class (take place writes)) is);
+      named = sym (named ∙ ap (λ b. if b then trace_number_at writes place else last_of_class class (take place writes)) is);
       same = is;
     }
     go false is found some =
@@ -116,7 +116,7 @@ last_found classes class writes flight (suc place) e within some =
         record {
           earlier = there.earlier;
           before = omega (arith, there.before);
-          named = there.named ∙ sym (named ∙ ap (λ b. if b then number_at writes place else last_of_class class (take place writes)) is);
+          named = there.named ∙ sym (named ∙ ap (λ b. if b then trace_number_at writes place else last_of_class class (take place writes)) is);
           same = there.same;
         }
 

@@ -6,7 +6,7 @@ use Rattle.std.proofs.lemmas.Option.{slice_get-get_or, slice_get-map}
 use Rattle.std.specs.List.{list_all, remove}
 use Rattle.order_rules.specs.Order.{Order, may_land, passes}
 use Rattle.posted_queue.specs.Flight.{Flight}
-use Rattle.posted_queue.specs.Landing.{after_landing}
+use Rattle.posted_queue.specs.Landing.{flight_after_landing}
 use Rattle.trace_command.specs.Writes.{no_write}
 use Rattle.trace_command.specs.declared.writes.FlyingWrite.{FlyingWrite}
 
@@ -32,7 +32,7 @@ removed_past : (flight : List FlyingWrite) (place : ℕ) → length flight ≤ p
 removed_past flight place past = rw (take_all place flight past, drop_all (suc place) flight (omega arith)) (append-nil flight)
 
 -- each write lands, where there is one
-pub each_lands : (flight : Flight FlyingWrite) (place : ℕ) → (after_landing free flight place).writes ≡ remove flight.writes place
+pub each_lands : (flight : Flight FlyingWrite) (place : ℕ) → (flight_after_landing free flight place).writes ≡ remove flight.writes place
 each_lands flight place =
     landed_where (may_land (map free flight.writes) place) flight (remove flight.writes place)
     (elim (cases_lt place (length flight.writes)) [

@@ -11,7 +11,7 @@ use Rattle.step_kinds.specs.declared.plan.SidePlan.{SidePlan}
 use Rattle.pair_model.specs.Plans.{side_plan}
 use Rattle.pair_model.specs.Sizes.{agreed_version}
 use Rattle.trace_command.specs.Words.{number_member, text_member, truth_text}
-use Rattle.trace_command.specs.Head.{pair_line, ring_after, side_object}
+use Rattle.trace_command.specs.Head.{trace_pair_line, ring_after, side_object}
 
 -- Rings, one more
 
@@ -86,7 +86,7 @@ pub pair_text : (pair : PairPlan) (name : List ℕ) (version mtu : ℕ) (old t1 
     t1 ≡ old ++ text_member (codes "{\"pair\":") name → t2 ≡ (t1 ++ codes ",\"up\":") ++ truth_text pair.up → t3 ≡ (t2 ++ codes ",\"strict\":") ++ truth_text pair.strict →
     t4 ≡ (t3 ++ codes ",\"raw\":") ++ truth_text pair.raw → t5 ≡ t4 ++ number_member (codes ",\"version\":") version → t6 ≡ t5 ++ number_member (codes ",\"mtu\":") mtu →
     t7 ≡ t6 ++ codes ",\"A\":" → t8 ≡ t7 ++ side_object pair A → t9 ≡ t8 ++ codes ",\"B\":" → t10 ≡ t9 ++ side_object pair B → new ≡ t10 ++ codes "}\n" →
-    new ≡ old ++ pair_line pair
+    new ≡ old ++ trace_pair_line pair
 pair_text pair name version mtu old t1 t2 t3 t4 t5 t6 t7 t8 t9 t10 new of_name of_version of_mtu h1 h2 h3 h4 h5 h6 h7 h8 h9 h10 h11 =
     let a = text_member (codes "{\"pair\":") name in
     let e = number_member (codes ",\"version\":") version in

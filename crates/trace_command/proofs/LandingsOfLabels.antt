@@ -7,7 +7,7 @@ use Rattle.step_kinds.specs.declared.steps.Label.{Label}
 use Rattle.step_kinds.specs.declared.steps.Step.TheVariants.{Land}
 use Rattle.ledger_model.specs.Log.{log_of}
 use Rattle.ledger_laws.proofs.Facade.{answer_of, same_side-refl}
-use Rattle.trace_command.specs.Writes.{number_at}
+use Rattle.trace_command.specs.Writes.{trace_number_at}
 use Rattle.trace_command.specs.declared.writes.FlyingWrite.{FlyingWrite}
 use Rattle.trace_command.specs.Laws.{LandingsAreOfTheirLabels, flying_labels, side_writes}
 use Rattle.trace_command.proofs.AnswersFit.{LandsThere}
@@ -15,7 +15,7 @@ use Rattle.trace_command.proofs.LogsInStep.{all_after, next_lands, run_in_step}
 
 -- the number of a write stands at the place of its label
 label_at : (labels : List Label) (writes : List FlyingWrite) (flight : List Label) (place : ℕ) (label : Label)
-    → map (λ (w : FlyingWrite). slice_get labels w.number) writes ≡ map Some flight → slice_get flight place ≡ Some label → slice_get labels (number_at writes place) ≡ Some label
+    → map (λ (w : FlyingWrite). slice_get labels w.number) writes ≡ map Some flight → slice_get flight place ≡ Some label → slice_get labels (trace_number_at writes place) ≡ Some label
 label_at labels [] [] place label e at = absurd (cc)
 label_at labels [] (x ∷ flight) place label e at = absurd (cc)
 label_at labels (w ∷ writes) [] place label e at = absurd (cc)

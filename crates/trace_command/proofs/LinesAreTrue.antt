@@ -17,9 +17,9 @@ use Rattle.ledger_model.specs.Network.{Network, items_from, network_from, new_ne
 use Rattle.ledger_model.specs.Origins.{bytes_kept}
 use Rattle.ledger_laws.proofs.Facade.{bridges_have_a_log}
 use Rattle.step_kinds.specs.AnsweredSteps.{AnsweredStep}
-use Rattle.trace_command.specs.Writes.{PairWrites, SideWrites, number_at, numbers_in, stopped_by}
-use Rattle.trace_command.specs.Laws.{HaveTheirAnswers, IsStoppedBy, dropped_numbers, how_often, landed_numbers, posted_labels, side_writes, steps_of}
-use Rattle.trace_command.specs.Traces.{TracesAreTrue, bridges_after, traced_side}
+use Rattle.trace_command.specs.Writes.{PairWrites, SideWrites, trace_number_at, numbers_in, stopped_by}
+use Rattle.trace_command.specs.Laws.{HaveTheirAnswers, IsStoppedBy, dropped_numbers, how_often, landed_numbers, posted_labels, side_writes, trace_steps_of}
+use Rattle.trace_command.specs.Traces.{PairTracesAreTrue, bridges_after, traced_side}
 use Rattle.trace_command.proofs.BlockedWait.{blocked_landings_wait}
 use Rattle.trace_command.proofs.LandingsOfLabels.{landings_are_of_their_labels}
 use Rattle.trace_command.proofs.NumbersStandOnce.{each_number_stands_once}
@@ -32,7 +32,7 @@ module _ (plan : Plan) (memories : Memories) where
   -- lines have the answers of the items from a network on
   abbrev AnswersFrom : Net → List AnsweredStep → Type 0
   AnswersFrom net lines =
-      map (λ (line : AnsweredStep). line.made.answer) lines ≡ map (λ (made : Answered). made.answer) (items_from bytes_kept plan memories net (steps_of lines))
+      map (λ (line : AnsweredStep). line.made.answer) lines ≡ map (λ (made : Answered). made.answer) (items_from bytes_kept plan memories net (trace_steps_of lines))
 
   -- Prefixes of lines that have their answers have theirs.
   first_answers : (net : Net) (before behind : List AnsweredStep) → AnswersFrom net (before ++ behind) → AnswersFrom net before
@@ -44,7 +44,7 @@ module _ (plan : Plan) (memories : Memories) where
 
   -- the line after them has the answer of the item after theirs
   next_answer : (net : Net) (before behind : List AnsweredStep) (line : AnsweredStep) → AnswersFrom net (before ++ line ∷ behind)
-      → line.made.answer ≡ (next_item bytes_kept plan memories (network_from bytes_kept plan memories net (steps_of before)) line.step).answer
+      → line.made.answer ≡ (next_item bytes_kept plan memories (network_from bytes_kept plan memories net (trace_steps_of before)) line.step).answer
   next_answer net [] behind line e = cc
   next_answer net (first ∷ before) behind line e =
       let rest : AnswersFrom (next_network bytes_kept plan memories net first.step) (before ++ line ∷ behind) = cc in
@@ -54,7 +54,7 @@ module _ (plan : Plan) (memories : Memories) where
 
   -- the steps that lines made on bridges
   abbrev bridged : List AnsweredStep → List Step
-  bridged before = bridge_steps plan memories (steps_of before)
+  bridged before = bridge_steps plan memories (trace_steps_of before)
 
   -- the first lines have a log of their bridges, which goes on by a landing with the answer of the line after them
   landing_goes_on : (before behind : List AnsweredStep) (line : AnsweredStep) (pair : ℕ) (side : Side) (place : ℕ) (answer : Answer)
@@ -64,10 +64,10 @@ module _ (plan : Plan) (memories : Memories) where
       log_of-last plan memories (bridged before) (Land pair side place)
       ∙ ap (λ (given : Answer). log_of plan memories (bridged before) ++ record { step = Land pair side place; answer = given } ∷ []) (sym given)
     where
-      given : answer ≡ (next_item bytes_kept plan memories (network_of plan memories (steps_of before)) (Land pair side place)).answer
+      given : answer ≡ (next_item bytes_kept plan memories (network_of plan memories (trace_steps_of before)) (Land pair side place)).answer
       given =
           sym is_answer ∙ next_answer (new_network plan) before behind line answers
-          ∙ ap (λ (step : Step). (next_item bytes_kept plan memories (network_of plan memories (steps_of before)) step).answer) is_land
+          ∙ ap (λ (step : Step). (next_item bytes_kept plan memories (network_of plan memories (trace_steps_of before)) step).answer) is_land
 
   -- what is so of that log, with the writes that it gives, is so with the writes that a trace follows
   as_traced : (before : List AnsweredStep) (pair : ℕ) (side : Side) → HaveTheirAnswers plan memories before → pair < length plan.pairs
@@ -76,14 +76,14 @@ module _ (plan : Plan) (memories : Memories) where
       → P (bridges_after plan memories before) (traced_side plan before pair side)
   as_traced before pair side answers within P so =
       subst (P (bridges_after plan memories before)) (ap (λ (now : PairWrites). at_side now.sides side) (sym (traces_follow_the_log plan memories before pair answers within)))
-      (subst (λ log. P log (side_writes plan log pair side)) (sym (bridges_have_a_log plan memories (steps_of before))) so)
+      (subst (λ log. P log (side_writes plan log pair side)) (sym (bridges_have_a_log plan memories (trace_steps_of before))) so)
 
 -- the lines of a trace are true of each pair of its plan
-pub traces_are_true : TracesAreTrue
+pub traces_are_true : PairTracesAreTrue
 traces_are_true plan memories lines pair side answers within = record {
   landings = λ before behind line place label parts is_land is_answer.
       traced before (line ∷ behind) parts
-      (λ log now. slice_get (posted_labels plan log pair side) (number_at now.flight place) ≡ Some label)
+      (λ log now. slice_get (posted_labels plan log pair side) (trace_number_at now.flight place) ≡ Some label)
       (landings_are_of_their_labels plan memories (bridged plan memories before) pair side place label
       (landing_goes_on plan memories before behind line pair side place (Landed label) (of_parts (before ++ line ∷ behind) parts) is_land is_answer));
   once = λ before behind n parts.

@@ -9,7 +9,7 @@ use Rattle.std.proofs.lemmas.List.Sums.{fold-append}
 use Rattle.step_kinds.specs.declared.steps.Label.{Label}
 use Rattle.posted_queue.proofs.Facade.{slice_get-append_far}
 use Rattle.pair_model.specs.Orders.{class_of}
-use Rattle.trace_command.specs.Writes.{SideWrites, with_dropped, with_landed, with_posted}
+use Rattle.trace_command.specs.Writes.{SideWrites, with_dropped, trace_with_landed, trace_with_posted}
 use Rattle.trace_command.specs.declared.writes.FlyingWrite.{FlyingWrite}
 
 -- Lists
@@ -62,7 +62,7 @@ pub record SideInStep (classes : List ℕ) (own : SideWrites) (flight labels : L
 
 module _ (classes : List ℕ) (own : SideWrites) (flight labels : List Label) (now : SideInStep classes own flight labels) where
   -- one write more
-  pub posted_in_step : (class : ℕ) (label : Label) → class_of classes label ≡ class → SideInStep classes (with_posted own class) (flight ++ label ∷ []) (labels ++ label ∷ [])
+  pub posted_in_step : (class : ℕ) (label : Label) → class_of classes label ≡ class → SideInStep classes (trace_with_posted own class) (flight ++ label ∷ []) (labels ++ label ∷ [])
   posted_in_step class label is = record {
     posted = omega (arith, now.posted, length-append labels (label ∷ []));
     numbers =
@@ -80,7 +80,7 @@ module _ (classes : List ℕ) (own : SideWrites) (flight labels : List Label) (n
       last = slice_get-append_far labels (label ∷ []) own.posted 0 (omega (arith, now.posted))
 
   -- one write landed
-  pub landed_in_step : (place : ℕ) → SideInStep classes (with_landed own place) (remove flight place) labels
+  pub landed_in_step : (place : ℕ) → SideInStep classes (trace_with_landed own place) (remove flight place) labels
   landed_in_step place = record {
     posted = now.posted;
     numbers =

@@ -22,11 +22,11 @@ use Rattle.pair_model.specs.Plans.{pair_plan}
 use Rattle.posted_queue.proofs.Facade.{count_by-remove}
 use Rattle.ledger_model.specs.Log.{Answered, Memories, log_of}
 use Rattle.ledger_laws.proofs.Facade.{count_by-last, get-map, log_of-last}
-use Rattle.trace_command.specs.Writes.{PairWrites, SideWrites, change_by, class_on, goes_through, number_at, numbers_in, pair_after, pair_start, with_posted}
+use Rattle.trace_command.specs.Writes.{PairWrites, SideWrites, change_by, class_on, goes_through, trace_number_at, numbers_in, pair_after, pair_start, trace_with_posted}
 use Rattle.trace_command.specs.declared.changes.Change.{Change}
 use Rattle.trace_command.specs.declared.changes.Change.TheVariants.{Trains, Breaks, Drops, Posts, Loses, Lands, Waits, Nothing}
 use Rattle.trace_command.specs.declared.writes.FlyingWrite.{FlyingWrite}
-use Rattle.trace_command.specs.Laws.{EachNumberStandsOnce, change_of, dropped_by, dropped_numbers, how_often, landed_by, landed_numbers, pair_writes, taken_from, with_item}
+use Rattle.trace_command.specs.Laws.{EachNumberStandsOnce, trace_change_of, dropped_by, dropped_numbers, how_often, landed_by, landed_numbers, pair_writes, taken_from, with_item}
 use Rattle.trace_command.proofs.AnswersFit.{LandsThere}
 use Rattle.trace_command.proofs.FlyingLabels.{flying_after}
 use Rattle.trace_command.proofs.NumbersInStep.{each_longer, map-remove}
@@ -57,14 +57,14 @@ module _ (n : ℕ) where
   posted_often flight write =
       ap (how_often n) (map-append (λ (w : FlyingWrite). w.number) flight (write ∷ [])) ∙ count_by-last (λ m. m == n) (numbers_in flight) write.number
 
-  number_there : (flight : List FlyingWrite) (place : ℕ) → place < length flight → slice_get (numbers_in flight) place ≡ Some (number_at flight place)
+  number_there : (flight : List FlyingWrite) (place : ℕ) → place < length flight → slice_get (numbers_in flight) place ≡ Some (trace_number_at flight place)
   number_there flight place within = get-map (λ (w : FlyingWrite). w.number) flight place (slice_index_or flight place (record { number = 0; class = 0 })) (slice_get-get_or flight place (record { number = 0; class = 0 }) within)
 
   landed_often : (flight : List FlyingWrite) (place : ℕ) → place < length flight
-      → how_often n (numbers_in (remove flight place)) + (if number_at flight place == n then 1 else 0) ≡ how_often n (numbers_in flight)
+      → how_often n (numbers_in (remove flight place)) + (if trace_number_at flight place == n then 1 else 0) ≡ how_often n (numbers_in flight)
   landed_often flight place within =
-      ap (λ numbers. how_often n numbers + (if number_at flight place == n then 1 else 0)) (map-remove (λ (w : FlyingWrite). w.number) flight place)
-      ∙ count_by-remove (λ m. m == n) (numbers_in flight) place (number_at flight place) (number_there flight place within)
+      ap (λ numbers. how_often n numbers + (if trace_number_at flight place == n then 1 else 0)) (map-remove (λ (w : FlyingWrite). w.number) flight place)
+      ∙ count_by-remove (λ m. m == n) (numbers_in flight) place (trace_number_at flight place) (number_there flight place within)
 
   -- What a change keeps
 
@@ -103,21 +103,21 @@ module _ (n : ℕ) where
   change_counts A up session sides Drops l d inside e = dropped_counts l d (Flying sides.a) (below sides.a.posted) e
   change_counts B up session sides Drops l d inside e = dropped_counts l d (Flying sides.b) (below sides.b.posted) e
   change_counts A true session sides (Posts A class) l d inside e =
-      posted_counts l d (Flying sides.a) sides.a.posted (Flying (with_posted sides.a class)) (if sides.a.posted == n then 1 else 0) e
+      posted_counts l d (Flying sides.a) sides.a.posted (Flying (trace_with_posted sides.a class)) (if sides.a.posted == n then 1 else 0) e
       (posted_often sides.a.flight (record { number = sides.a.posted; class = class })) refl
   change_counts B true session sides (Posts B class) l d inside e =
-      posted_counts l d (Flying sides.b) sides.b.posted (Flying (with_posted sides.b class)) (if sides.b.posted == n then 1 else 0) e
+      posted_counts l d (Flying sides.b) sides.b.posted (Flying (trace_with_posted sides.b class)) (if sides.b.posted == n then 1 else 0) e
       (posted_often sides.b.flight (record { number = sides.b.posted; class = class })) refl
   change_counts A true session sides (Posts B class) l d inside e = same_counts l d (Flying sides.a) (below sides.a.posted) e
   change_counts B true session sides (Posts A class) l d inside e = same_counts l d (Flying sides.b) (below sides.b.posted) e
   change_counts side false session sides (Posts s class) l d inside e = same_counts l d (Flying (at_side sides side)) (below (at_side sides side).posted) e
   change_counts side up session sides Loses l d inside e = same_counts l d (Flying (at_side sides side)) (below (at_side sides side).posted) e
   change_counts A up session sides (Lands A place) l d inside e =
-      landed_counts l d (Flying sides.a) (how_often n (numbers_in (remove sides.a.flight place))) (how_often n (number_at sides.a.flight place ∷ [])) (below sides.a.posted) e
-      (ap (λ one. how_often n (numbers_in (remove sides.a.flight place)) + one) (often-one (number_at sides.a.flight place)) ∙ landed_often sides.a.flight place (inside refl))
+      landed_counts l d (Flying sides.a) (how_often n (numbers_in (remove sides.a.flight place))) (how_often n (trace_number_at sides.a.flight place ∷ [])) (below sides.a.posted) e
+      (ap (λ one. how_often n (numbers_in (remove sides.a.flight place)) + one) (often-one (trace_number_at sides.a.flight place)) ∙ landed_often sides.a.flight place (inside refl))
   change_counts B up session sides (Lands B place) l d inside e =
-      landed_counts l d (Flying sides.b) (how_often n (numbers_in (remove sides.b.flight place))) (how_often n (number_at sides.b.flight place ∷ [])) (below sides.b.posted) e
-      (ap (λ one. how_often n (numbers_in (remove sides.b.flight place)) + one) (often-one (number_at sides.b.flight place)) ∙ landed_often sides.b.flight place (inside refl))
+      landed_counts l d (Flying sides.b) (how_often n (numbers_in (remove sides.b.flight place))) (how_often n (trace_number_at sides.b.flight place ∷ [])) (below sides.b.posted) e
+      (ap (λ one. how_often n (numbers_in (remove sides.b.flight place)) + one) (often-one (trace_number_at sides.b.flight place)) ∙ landed_often sides.b.flight place (inside refl))
   change_counts A up session sides (Lands B place) l d inside e = same_counts l d (Flying sides.a) (below sides.a.posted) e
   change_counts B up session sides (Lands A place) l d inside e = same_counts l d (Flying sides.b) (below sides.b.posted) e
   change_counts side up session sides (Waits s place) l d inside e = same_counts l d (Flying (at_side sides side)) (below (at_side sides side).posted) e
@@ -155,19 +155,19 @@ module _ (plan : Plan) (pair : ℕ) (side : Side) (writes : PairWrites) (flight 
   inside step answer there here = tt
 
   -- what an item of a log lands is in flight
-  change_inside : (made : Answered) → LandsThere pair side flight made → Inside side writes (change_of plan pair made)
+  change_inside : (made : Answered) → LandsThere pair side flight made → Inside side writes (trace_change_of plan pair made)
   change_inside made there = inside_if (subject_of made.step == pair) (change_by (pair_plan plan pair) made.step made.answer) (inside made.step made.answer there)
 
 -- Logs
 
 -- what is taken out, with an item more
 taken-last : (taken : PairWrites → Change → List ℕ) (plan : Plan) (pair : ℕ) (now : PairWrites) (log : List Answered) (made : Answered)
-    → taken_from taken plan pair now (log ++ made ∷ []) ≡ taken_from taken plan pair now log ++ taken (fold (with_item plan pair) now log) (change_of plan pair made)
-taken-last taken plan pair now [] made = append-nil (taken now (change_of plan pair made))
+    → taken_from taken plan pair now (log ++ made ∷ []) ≡ taken_from taken plan pair now log ++ taken (fold (with_item plan pair) now log) (trace_change_of plan pair made)
+taken-last taken plan pair now [] made = append-nil (taken now (trace_change_of plan pair made))
 taken-last taken plan pair now (first ∷ log) made =
-    ap (λ rest. taken now (change_of plan pair first) ++ rest) (taken-last taken plan pair (with_item plan pair now first) log made)
-    ∙ sym (append_assoc (taken now (change_of plan pair first)) (taken_from taken plan pair (with_item plan pair now first) log)
-    (taken (fold (with_item plan pair) (with_item plan pair now first) log) (change_of plan pair made)))
+    ap (λ rest. taken now (trace_change_of plan pair first) ++ rest) (taken-last taken plan pair (with_item plan pair now first) log made)
+    ∙ sym (append_assoc (taken now (trace_change_of plan pair first)) (taken_from taken plan pair (with_item plan pair now first) log)
+    (taken (fold (with_item plan pair) (with_item plan pair now first) log) (trace_change_of plan pair made)))
 
 module _ (plan : Plan) (memories : Memories) (pair : ℕ) (side : Side) (n : ℕ) where
   abbrev Counted : List Answered → Type 0
@@ -183,7 +183,7 @@ module _ (plan : Plan) (memories : Memories) (pair : ℕ) (side : Side) (n : ℕ
       go A = none
       go B = none
 
-  counted_more : (log : List Answered) (made : Answered) → Inside side (pair_writes plan log pair) (change_of plan pair made) → Counted log → Counted (log ++ made ∷ [])
+  counted_more : (log : List Answered) (made : Answered) → Inside side (pair_writes plan log pair) (trace_change_of plan pair made) → Counted log → Counted (log ++ made ∷ [])
   counted_more log made within counted =
       subst (λ (writes : PairWrites). Counts n side (how_often n (landed_numbers plan (log ++ made ∷ []) pair side)) (how_often n (dropped_numbers plan (log ++ made ∷ []) pair side)) writes)
       (sym (writes-last plan pair log made))
@@ -195,7 +195,7 @@ module _ (plan : Plan) (memories : Memories) (pair : ℕ) (side : Side) (n : ℕ
       now = pair_writes plan log pair
 
       change : Change
-      change = change_of plan pair made
+      change = trace_change_of plan pair made
 
       more : (taken : PairWrites → Change → List ℕ)
           → how_often n (taken_from taken plan pair (pair_start (pair_plan plan pair)) (log ++ made ∷ []))

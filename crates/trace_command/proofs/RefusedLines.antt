@@ -11,7 +11,7 @@ use Rattle.step_kinds.specs.declared.steps.Step.TheVariants.{Train, Break, DropD
 use Rattle.step_kinds.specs.Answers.{is_made}
 use Rattle.pair_model.specs.Plans.{no_pair}
 use Rattle.step_kinds.specs.AnsweredSteps.{AnsweredStep}
-use Rattle.trace_command.specs.Lines.{step_line}
+use Rattle.trace_command.specs.Lines.{trace_step_line}
 use Rattle.trace_command.specs.Writes.{PairWrites, change_by, pair_after, pair_in, pair_start, writes_after}
 use Rattle.step_kinds.specs.declared.plan.LineAnswer.{LineAnswer}
 use Rattle.step_kinds.specs.declared.plan.Plan.{Plan}
@@ -53,11 +53,11 @@ unchanged_by_lines traced answered (suc count) refused =
 
 -- a line that is put together apart
 pub line_apart : (inside traced : Traced) (step : Step) (made : LineAnswer) (cleared line : List ℕ) → inside ≡ traced → cleared ≡ [] →
-    line ≡ cleared ++ step_line inside.plan inside.writes step made → line ≡ step_line traced.plan traced.writes step made
+    line ≡ cleared ++ trace_step_line inside.plan inside.writes step made → line ≡ trace_step_line traced.plan traced.writes step made
 line_apart inside traced step made cleared line same none is =
     is
-    ∙ ap (λ (before : List ℕ). before ++ step_line inside.plan inside.writes step made) none
-    ∙ ap (λ (seen : Traced). step_line seen.plan seen.writes step made) same
+    ∙ ap (λ (before : List ℕ). before ++ trace_step_line inside.plan inside.writes step made) none
+    ∙ ap (λ (seen : Traced). trace_step_line seen.plan seen.writes step made) same
 
 same_plan : (traced : Traced) (answered : AnsweredStep) (count : ℕ) → (fold with_line traced (replicate count answered)).plan ≡ traced.plan
 same_plan traced answered zero = refl
@@ -66,12 +66,12 @@ same_plan traced answered (suc count) = same_plan (with_line traced answered) an
 -- one line more is the line of the first
 pub line_more : (traced : Traced) (answered : AnsweredStep) (count : ℕ) (text : List ℕ) → is_made answered.made.answer ≡ false →
     text ≡ (fold with_line traced (replicate count answered)).text →
-    text ++ step_line traced.plan traced.writes answered.step answered.made ≡ (fold with_line traced (replicate (count + 1) answered)).text
+    text ++ trace_step_line traced.plan traced.writes answered.step answered.made ≡ (fold with_line traced (replicate (count + 1) answered)).text
 line_more traced answered count text refused is =
     let so_far : Traced = fold with_line traced (replicate count answered) in
-    ap (λ (before : List ℕ). before ++ step_line traced.plan traced.writes answered.step answered.made) is
-    ∙ ap (λ (plan : Plan). so_far.text ++ step_line plan traced.writes answered.step answered.made) (sym (same_plan traced answered count))
-    ∙ ap (λ (writes : List PairWrites). so_far.text ++ step_line so_far.plan writes answered.step answered.made) (sym (unchanged_by_lines traced answered count refused))
+    ap (λ (before : List ℕ). before ++ trace_step_line traced.plan traced.writes answered.step answered.made) is
+    ∙ ap (λ (plan : Plan). so_far.text ++ trace_step_line plan traced.writes answered.step answered.made) (sym (same_plan traced answered count))
+    ∙ ap (λ (writes : List PairWrites). so_far.text ++ trace_step_line so_far.plan writes answered.step answered.made) (sym (unchanged_by_lines traced answered count refused))
     ∙ ap (λ (all : Traced). all.text) (sym (fold_more with_line traced count answered))
 
 -- what is kept after this many lines, by its parts

@@ -10,7 +10,7 @@ use Rattle.step_kinds.specs.declared.steps.Step.{Step}
 use Rattle.step_kinds.specs.declared.steps.Step.TheVariants.{Xbegin}
 use Rattle.report_text.specs.Report.{line_of}
 use Rattle.step_kinds.specs.AnsweredSteps.{AnsweredStep}
-use Rattle.trace_command.specs.Lines.{change_members, made_member, step_line, step_lines}
+use Rattle.trace_command.specs.Lines.{change_members, made_member, trace_step_line, step_lines}
 use Rattle.trace_command.specs.Steps.{answer_object, step_members, step_name}
 use Rattle.trace_command.specs.Words.{named_object}
 use Rattle.trace_command.specs.Writes.{PairWrites, change_in, pair_in, writes_after}
@@ -20,7 +20,7 @@ members_same plan steps (Xbegin pair side queue dev dst kind payload) = refl
 members_same plan steps step = refl
 
 line_same : (plan : Plan) (steps : List Line) (writes : List PairWrites) (step : Step) (made : LineAnswer) →
-    step_line plan writes step made ≡ step_line (record plan { steps = steps }) writes step made
+    trace_step_line plan writes step made ≡ trace_step_line (record plan { steps = steps }) writes step made
 line_same plan steps writes step made =
     ap
     (λ (members : List ℕ).
@@ -36,4 +36,4 @@ lines_same plan steps writes [] = refl
 lines_same plan steps writes (answered ∷ rest) =
     let after : List PairWrites = writes_after plan.pairs writes answered.step answered.made.answer in
     ap (λ (line : List ℕ). line ++ step_lines plan after rest) (line_same plan steps writes answered.step answered.made)
-    ∙ ap (λ (lines : List ℕ). step_line (record plan { steps = steps }) writes answered.step answered.made ++ lines) (lines_same plan steps after rest)
+    ∙ ap (λ (lines : List ℕ). trace_step_line (record plan { steps = steps }) writes answered.step answered.made ++ lines) (lines_same plan steps after rest)

@@ -25,7 +25,7 @@ use Rattle.ledger_model.specs.Ports.{Port, port_on, switch_of}
 use Rattle.step_kinds.specs.AnsweredSteps.{AnsweredStep}
 use Rattle.trace_command.specs.Writes.{PairWrites, change_by, pair_after, pair_in, pair_start, writes_after}
 use Rattle.trace_command.specs.declared.changes.Change.TheVariants.{Nothing}
-use Rattle.trace_command.specs.Laws.{TracesFollowTheLog, steps_of, with_item}
+use Rattle.trace_command.specs.Laws.{TracesFollowTheLog, trace_steps_of, with_item}
 
 -- One pair among all
 
@@ -91,13 +91,13 @@ module _ (plan : Plan) (k : ℕ) where
     next_alike net step now = refl
 
     lines_alike : (net : Net) (lines : List AnsweredStep) (now : PairWrites)
-        → map (λ (line : AnsweredStep). line.made.answer) lines ≡ map (λ (made : Answered). made.answer) (items_from bytes_kept plan memories net (steps_of lines))
-        → fold (with_item plan k) now (map item_in lines) ≡ fold (with_item plan k) now (on_bridges (items_from bytes_kept plan memories net (steps_of lines)))
+        → map (λ (line : AnsweredStep). line.made.answer) lines ≡ map (λ (made : Answered). made.answer) (items_from bytes_kept plan memories net (trace_steps_of lines))
+        → fold (with_item plan k) now (map item_in lines) ≡ fold (with_item plan k) now (on_bridges (items_from bytes_kept plan memories net (trace_steps_of lines)))
     lines_alike net [] now e = refl
     lines_alike net (line ∷ lines) now e =
         let item : Answered = next_item bytes_kept plan memories net line.step in
         let after : Net = next_network bytes_kept plan memories net line.step in
-        let rest : List Answered = items_from bytes_kept plan memories after (steps_of lines) in
+        let rest : List Answered = items_from bytes_kept plan memories after (trace_steps_of lines) in
         let own : line.made.answer ≡ item.answer = cc in
         let others : map (λ (line : AnsweredStep). line.made.answer) lines ≡ map (λ (made : Answered). made.answer) rest = cc in
         ap (λ answer. fold (with_item plan k) (with_item plan k now (record { step = line.step; answer = answer })) (map item_in lines)) own

@@ -12,7 +12,7 @@ use Rattle.step_kinds.specs.declared.plan.Plan.{Plan}
 use Rattle.step_kinds.specs.declared.steps.Answer.{Answer}
 use Rattle.step_kinds.specs.declared.steps.Step.{Step}
 use Rattle.ledger_model.specs.NetworkLog.{switch_log}
-use Rattle.trace_command.specs.Laws.{HaveTheirAnswers, steps_of}
+use Rattle.trace_command.specs.Laws.{HaveTheirAnswers, trace_steps_of}
 use Rattle.trace_command.proofs.LinesAreTrue.{traces_are_true}
 use Rattle.trace_command.specs.Answers.{HasTrueTrace, IsTraceOf, traced}
 
@@ -20,7 +20,7 @@ answers_in : List Answered → List Answer
 answers_in log = map (λ made. made.answer) log
 
 -- the lines have the steps of the plan, and the answers of its log
-same_steps : (lines : List Line) (log : List Answered) → length log ≡ length lines → steps_of (answered_steps lines log) ≡ map (λ line. line.step) lines
+same_steps : (lines : List Line) (log : List Answered) → length log ≡ length lines → trace_steps_of (answered_steps lines log) ≡ map (λ line. line.step) lines
 same_steps [] log same = refl
 same_steps (line ∷ lines) [] same = absurd (omega arith)
 same_steps (line ∷ lines) (made ∷ log) same = ap (λ (steps : List Step). line.step ∷ steps) (same_steps lines log (omega arith))

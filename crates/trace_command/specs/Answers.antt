@@ -1,6 +1,6 @@
 -- What `trace` answers, and what is true of it.
 use Rattle.std.specs.Prelude.{◌≡◌, ℕ, ◌<◌, Result, Ok, Err, List, length}
-use Rattle.command_reply.specs.Output.{Output, done, refused}
+use Rattle.command_reply.specs.Output.{Output, reply_done, refused}
 use Rattle.command_reply.specs.Statuses.{number_of}
 use Rattle.command_reply.specs.declared.status.Status.TheVariants.{Done}
 use Rattle.ledger_model.specs.Memory.{memory_of}
@@ -14,7 +14,7 @@ use Rattle.trace_command.specs.Trace.{trace_text}
 
 -- the trace of the plan that a script declares, or the script's fault
 abbrev pub traced : Result Plan ScriptFault → Output
-traced (Ok plan) = done (trace_text plan)
+traced (Ok plan) = reply_done (trace_text plan)
 traced (Err fault) = refused fault
 
 -- the lines of a plan's trace are true of each side of each pair

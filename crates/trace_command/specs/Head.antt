@@ -31,12 +31,12 @@ side_object pair side =
     ++ flat_map (ring_after pair side) (range_with_len 0 own.queues) ++ codes "]}"
 
 -- a pair: its name, its options, the version that both sides speak, and its sides
-abbrev pub pair_line : PairPlan → List ℕ
-pair_line pair =
+abbrev pub trace_pair_line : PairPlan → List ℕ
+trace_pair_line pair =
     line_of
     (text_member (codes "{\"pair\":") pair.name ++ codes ",\"up\":" ++ truth_text pair.up ++ codes ",\"strict\":" ++ truth_text pair.strict
     ++ codes ",\"raw\":" ++ truth_text pair.raw ++ number_member (codes ",\"version\":") (agreed_version pair) ++ number_member (codes ",\"mtu\":") pair.mtu
     ++ codes ",\"A\":" ++ side_object pair A ++ codes ",\"B\":" ++ side_object pair B ++ codes "}")
 
-abbrev pub head : List PairPlan → List ℕ
-head pairs = first_line ++ flat_map pair_line pairs
+abbrev pub trace_head : List PairPlan → List ℕ
+trace_head pairs = first_line ++ flat_map trace_pair_line pairs

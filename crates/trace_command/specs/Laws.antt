@@ -22,18 +22,18 @@ use Rattle.ledger_laws.specs.Flights.{in_flight}
 use Rattle.ledger_laws.specs.Laws.{GoesOn}
 use Rattle.ledger_model.specs.NetworkLog.{on_bridges, switch_log}
 use Rattle.step_kinds.specs.AnsweredSteps.{AnsweredStep}
-use Rattle.trace_command.specs.Writes.{PairWrites, SideWrites, change_by, goes_through, number_at, numbers_in, pair_after, pair_in, pair_start, stopped_by, writes_after, writes_start}
+use Rattle.trace_command.specs.Writes.{PairWrites, SideWrites, change_by, goes_through, trace_number_at, numbers_in, pair_after, pair_in, pair_start, stopped_by, writes_after, writes_start}
 use Rattle.trace_command.specs.declared.changes.Change.{Change}
 use Rattle.trace_command.specs.declared.changes.Change.TheVariants.{Drops, Lands, Nothing}
 
 -- The writes of a pair after a log
 
 -- what an item of the log changes of a pair
-abbrev pub change_of : Plan → ℕ → Answered → Change
-change_of plan pair made = if subject_of made.step == pair then change_by (pair_plan plan pair) made.step made.answer else Nothing
+abbrev pub trace_change_of : Plan → ℕ → Answered → Change
+trace_change_of plan pair made = if subject_of made.step == pair then change_by (pair_plan plan pair) made.step made.answer else Nothing
 
 abbrev pub with_item : Plan → ℕ → PairWrites → Answered → PairWrites
-with_item plan pair now made = pair_after now (change_of plan pair made)
+with_item plan pair now made = pair_after now (trace_change_of plan pair made)
 
 abbrev pub pair_writes : Plan → List Answered → ℕ → PairWrites
 pair_writes plan log pair = fold (with_item plan pair) (pair_start (pair_plan plan pair)) log
@@ -76,11 +76,11 @@ abbrev pub LandingsAreOfTheirLabels : Type 0
 LandingsAreOfTheirLabels = (plan : Plan) (memories : Memories) (steps : List Step) (pair : ℕ) (side : Side) (place : ℕ) (label : Label) →
     let log = log_of plan memories steps in
     GoesOn plan memories steps (Land pair side place) (Landed label) →
-    slice_get (posted_labels plan log pair side) (number_at (side_writes plan log pair side).flight place) ≡ Some label
+    slice_get (posted_labels plan log pair side) (trace_number_at (side_writes plan log pair side).flight place) ≡ Some label
 
 -- the numbers that a change lands, and those that it drops
 abbrev pub landed_by : Side → PairWrites → Change → List ℕ
-landed_by side now (Lands from place) = if same_side from side then number_at (at_side now.sides side).flight place ∷ [] else []
+landed_by side now (Lands from place) = if same_side from side then trace_number_at (at_side now.sides side).flight place ∷ [] else []
 landed_by side now change = []
 
 abbrev pub dropped_by : Side → PairWrites → Change → List ℕ
@@ -90,7 +90,7 @@ dropped_by side now change = []
 -- the numbers that the items of a log take out, from a pair's writes on
 abbrev pub taken_from : (PairWrites → Change → List ℕ) → Plan → ℕ → PairWrites → List Answered → List ℕ
 taken_from taken plan pair now [] = []
-taken_from taken plan pair now (made ∷ log) = taken now (change_of plan pair made) ++ taken_from taken plan pair (with_item plan pair now made) log
+taken_from taken plan pair now (made ∷ log) = taken now (trace_change_of plan pair made) ++ taken_from taken plan pair (with_item plan pair now made) log
 
 abbrev pub landed_numbers : Plan → List Answered → ℕ → Side → List ℕ
 landed_numbers plan log pair side = taken_from (landed_by side) plan pair (pair_start (pair_plan plan pair)) log
@@ -120,7 +120,7 @@ order_at plan log pair side place = order_of (pair_plan plan pair) side (slice_i
 pub record IsStoppedBy (plan : Plan) (log : List Answered) (pair : ℕ) (side : Side) (place number : ℕ) : Type 0 where
   pub earlier : ℕ
   pub before : earlier < place
-  pub named : number_at (side_writes plan log pair side).flight earlier ≡ number
+  pub named : trace_number_at (side_writes plan log pair side).flight earlier ≡ number
   pub may_not_pass : passes (order_at plan log pair side place) (order_at plan log pair side earlier) ≡ false
 
 abbrev pub BlockedLandingsWait : Type 0
@@ -132,12 +132,12 @@ BlockedLandingsWait = (plan : Plan) (memories : Memories) (steps : List Step) (p
 -- Traces
 
 -- the steps of a trace's lines
-abbrev pub steps_of : List AnsweredStep → List Step
-steps_of lines = map (λ line. line.step) lines
+abbrev pub trace_steps_of : List AnsweredStep → List Step
+trace_steps_of lines = map (λ line. line.step) lines
 
 -- each line has the answer that the log of all their steps has for its step
 abbrev pub HaveTheirAnswers : Plan → Memories → List AnsweredStep → Type 0
-HaveTheirAnswers plan memories lines = map (λ line. line.made.answer) lines ≡ map (λ made. made.answer) (switch_log plan memories (steps_of lines))
+HaveTheirAnswers plan memories lines = map (λ line. line.made.answer) lines ≡ map (λ made. made.answer) (switch_log plan memories (trace_steps_of lines))
 
 -- the writes of all pairs after these lines, as a trace follows them
 abbrev pub traced_writes : Plan → List AnsweredStep → List PairWrites
@@ -147,4 +147,4 @@ traced_writes plan lines = fold (λ writes line. writes_after plan.pairs writes 
 -- it is in the log.
 abbrev pub TracesFollowTheLog : Type 0
 TracesFollowTheLog = (plan : Plan) (memories : Memories) (lines : List AnsweredStep) (pair : ℕ) → HaveTheirAnswers plan memories lines → pair < length plan.pairs →
-    pair_in (traced_writes plan lines) pair ≡ pair_writes plan (on_bridges (switch_log plan memories (steps_of lines))) pair
+    pair_in (traced_writes plan lines) pair ≡ pair_writes plan (on_bridges (switch_log plan memories (trace_steps_of lines))) pair

@@ -18,7 +18,7 @@ use Rattle.step_kinds.specs.AnsweredSteps.{AnsweredStep}
 use Rattle.step_kinds.specs.declared.plan.LaneCount.{LaneCount}
 use Rattle.trace_command.specs.Steps.{answer_object, step_object}
 use Rattle.trace_command.specs.Words.{number_member, numbers_list, text_member, truth_text}
-use Rattle.trace_command.specs.Writes.{PairWrites, change_in, number_at, numbers_in, pair_in, stopped_by, writes_after}
+use Rattle.trace_command.specs.Writes.{PairWrites, change_in, trace_number_at, numbers_in, pair_in, stopped_by, writes_after}
 use Rattle.trace_command.specs.declared.changes.Change.{Change}
 use Rattle.trace_command.specs.declared.changes.Change.TheVariants.{Trains, Breaks, Drops, Posts, Loses, Lands, Waits, Nothing}
 
@@ -49,15 +49,15 @@ change_members now Drops = dropped_members now ++ link_members (codes "down") no
 change_members now (Posts side class) = if now.up then number_member (codes ",\"write\":") (at_side now.sides side).posted else codes ",\"write\":null"
 change_members now Loses = codes ",\"write\":null"
 change_members now (Lands side place) =
-    number_member (codes ",\"write\":") (number_at (at_side now.sides side).flight place) ++ number_member (codes ",\"passed\":") place
+    number_member (codes ",\"write\":") (trace_number_at (at_side now.sides side).flight place) ++ number_member (codes ",\"passed\":") place
 change_members now (Waits side place) =
-    number_member (codes ",\"write\":") (number_at (at_side now.sides side).flight place)
+    number_member (codes ",\"write\":") (trace_number_at (at_side now.sides side).flight place)
     ++ number_member (codes ",\"waits_for\":") (stopped_by (at_side now.sides side).flight place)
 change_members now Nothing = []
 
 -- the line of a step, its line in the script, its answer, whether it was made, and what it changes
-abbrev pub step_line : Plan → List PairWrites → Step → LineAnswer → List ℕ
-step_line plan writes step made =
+abbrev pub trace_step_line : Plan → List PairWrites → Step → LineAnswer → List ℕ
+trace_step_line plan writes step made =
     line_of
     (codes "{\"line\":" ++ decimal made.line ++ codes ",\"step\":" ++ step_object plan step ++ codes ",\"answer\":" ++ answer_object made.answer ++ made_member made.answer
     ++ change_members (pair_in writes (subject_of step)) (change_in plan.pairs step made.answer) ++ codes "}")
@@ -66,7 +66,7 @@ step_line plan writes step made =
 abbrev pub step_lines : Plan → List PairWrites → List AnsweredStep → List ℕ
 step_lines plan writes [] = []
 step_lines plan writes (answered ∷ rest) =
-    step_line plan writes answered.step answered.made ++ step_lines plan (writes_after plan.pairs writes answered.step answered.made.answer) rest
+    trace_step_line plan writes answered.step answered.made ++ step_lines plan (writes_after plan.pairs writes answered.step answered.made.answer) rest
 
 -- a lane
 unfoldable pub lane_object : List PairPlan → LaneName → List ℕ
@@ -84,11 +84,11 @@ abbrev pub lane_line : List PairPlan → LaneCount → List ℕ
 lane_line pairs count = line_of (codes "{\"lane\":" ++ lane_object pairs count.name ++ count_members count ++ codes "}")
 
 -- that line where either isn't 0
-abbrev pub count_lines : List PairPlan → LaneCount → List ℕ
-count_lines pairs count = if (count.accepted == 0) && (count.delivered == 0) then [] else lane_line pairs count
+abbrev pub trace_count_lines : List PairPlan → LaneCount → List ℕ
+trace_count_lines pairs count = if (count.accepted == 0) && (count.delivered == 0) then [] else lane_line pairs count
 
-abbrev pub lane_lines : List PairPlan → List LaneCount → List ℕ
-lane_lines pairs counts = flat_map (count_lines pairs) counts
+abbrev pub trace_lane_lines : List PairPlan → List LaneCount → List ℕ
+trace_lane_lines pairs counts = flat_map (trace_count_lines pairs) counts
 
 -- what a device sent, refused and received
 unfoldable pub counter_members : Counters → List ℕ
@@ -97,15 +97,15 @@ counter_members counters =
     ++ number_member (codes ",\"refused\":") counters.refused ++ number_member (codes ",\"rx\":") counters.rx
     ++ number_member (codes ",\"rx_bytes\":") counters.rx_bytes ++ number_member (codes ",\"short\":") counters.short
 
-abbrev pub device_line : DevPlan → Counters → List ℕ
-device_line dev counters = line_of (codes "{\"device\":\"" ++ dev.name ++ codes "\"" ++ counter_members counters ++ codes "}")
+abbrev pub trace_device_line : DevPlan → Counters → List ℕ
+trace_device_line dev counters = line_of (codes "{\"device\":\"" ++ dev.name ++ codes "\"" ++ counter_members counters ++ codes "}")
 
-abbrev pub device_lines : List DevPlan → List Counters → List ℕ
-device_lines devs counters = flat_map (λ both. device_line both.0 both.1) (zip devs counters)
+abbrev pub trace_device_lines : List DevPlan → List Counters → List ℕ
+trace_device_lines devs counters = flat_map (λ both. trace_device_line both.0 both.1) (zip devs counters)
 
-abbrev pub end_line : List ℕ
-end_line = line_of (codes "{\"end\":true}")
+abbrev pub trace_end_line : List ℕ
+trace_end_line = line_of (codes "{\"end\":true}")
 
 -- what follows the steps: lanes, devices, the end
-abbrev pub ending : Plan → List LaneCount → List Counters → List ℕ
-ending plan lanes devs = lane_lines plan.pairs lanes ++ device_lines plan.devs devs ++ end_line
+abbrev pub trace_ending : Plan → List LaneCount → List Counters → List ℕ
+trace_ending plan lanes devs = trace_lane_lines plan.pairs lanes ++ trace_device_lines plan.devs devs ++ trace_end_line

@@ -10,12 +10,12 @@ use Rattle.ledger_model.specs.Log.{Answered, Memories}
 use Rattle.pair_model.specs.Both.{at_side}
 use Rattle.ledger_model.specs.NetworkLog.{on_bridges, switch_log}
 use Rattle.step_kinds.specs.AnsweredSteps.{AnsweredStep}
-use Rattle.trace_command.specs.Writes.{SideWrites, number_at, numbers_in, pair_in, stopped_by}
-use Rattle.trace_command.specs.Laws.{HaveTheirAnswers, IsStoppedBy, dropped_numbers, how_often, landed_numbers, posted_labels, steps_of, traced_writes}
+use Rattle.trace_command.specs.Writes.{SideWrites, trace_number_at, numbers_in, pair_in, stopped_by}
+use Rattle.trace_command.specs.Laws.{HaveTheirAnswers, IsStoppedBy, dropped_numbers, how_often, landed_numbers, posted_labels, trace_steps_of, traced_writes}
 
 -- what the log has of bridges after the first lines of a trace
 abbrev pub bridges_after : Plan → Memories → List AnsweredStep → List Answered
-bridges_after plan memories before = on_bridges (switch_log plan memories (steps_of before))
+bridges_after plan memories before = on_bridges (switch_log plan memories (trace_steps_of before))
 
 -- the writes of a side after them, as the trace follows them
 abbrev pub traced_side : Plan → List AnsweredStep → ℕ → Side → SideWrites
@@ -26,7 +26,7 @@ pub record IsTrueTrace (plan : Plan) (memories : Memories) (lines : List Answere
   -- a landing names a number that was posted before, and that write has the label that landed
   pub landings : (before behind : List AnsweredStep) (line : AnsweredStep) (place : ℕ) (label : Label) → lines ≡ before ++ line ∷ behind →
       line.step ≡ Land pair side place → line.made.answer ≡ Landed label →
-      slice_get (posted_labels plan (bridges_after plan memories before) pair side) (number_at (traced_side plan before pair side).flight place) ≡ Some label
+      slice_get (posted_labels plan (bridges_after plan memories before) pair side) (trace_number_at (traced_side plan before pair side).flight place) ≡ Some label
   -- after any lines, the number of each write that was posted stands once among those that landed, were dropped, and
   -- are in flight
   pub once : (before behind : List AnsweredStep) (n : ℕ) → lines ≡ before ++ behind →
@@ -39,6 +39,6 @@ pub record IsTrueTrace (plan : Plan) (memories : Memories) (lines : List Answere
       IsStoppedBy plan (bridges_after plan memories before) pair side place (stopped_by (traced_side plan before pair side).flight place)
 
 -- so it is of each pair, where the lines have the answers of the log
-abbrev pub TracesAreTrue : Type 0
-TracesAreTrue = (plan : Plan) (memories : Memories) (lines : List AnsweredStep) (pair : ℕ) (side : Side) → HaveTheirAnswers plan memories lines →
+abbrev pub PairTracesAreTrue : Type 0
+PairTracesAreTrue = (plan : Plan) (memories : Memories) (lines : List AnsweredStep) (pair : ℕ) (side : Side) → HaveTheirAnswers plan memories lines →
     pair < length plan.pairs → IsTrueTrace plan memories lines pair side

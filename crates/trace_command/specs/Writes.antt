@@ -65,12 +65,12 @@ change_by plan step answer = Nothing
 -- What stands after it
 
 -- one write more, which is in flight
-abbrev pub with_posted : SideWrites → ℕ → SideWrites
-with_posted now class = record { posted = now.posted + 1; flight = now.flight ++ record { number = now.posted; class = class } ∷ [] }
+abbrev pub trace_with_posted : SideWrites → ℕ → SideWrites
+trace_with_posted now class = record { posted = now.posted + 1; flight = now.flight ++ record { number = now.posted; class = class } ∷ [] }
 
 -- the write at this place has landed
-abbrev pub with_landed : SideWrites → ℕ → SideWrites
-with_landed now place = record now { flight = remove now.flight place }
+abbrev pub trace_with_landed : SideWrites → ℕ → SideWrites
+trace_with_landed now place = record now { flight = remove now.flight place }
 
 -- nothing is in flight any more
 abbrev pub with_dropped : SideWrites → SideWrites
@@ -80,9 +80,9 @@ abbrev pub pair_after : PairWrites → Change → PairWrites
 pair_after now (Trains session) = record now { up = true; session = session }
 pair_after now Breaks = record now { up = false }
 pair_after now Drops = record now { up = false; sides = record { a = with_dropped now.sides.a; b = with_dropped now.sides.b } }
-pair_after now (Posts side class) = if now.up then record now { sides = with_side now.sides side (with_posted (at_side now.sides side) class) } else now
+pair_after now (Posts side class) = if now.up then record now { sides = with_side now.sides side (trace_with_posted (at_side now.sides side) class) } else now
 pair_after now Loses = now
-pair_after now (Lands side place) = record now { sides = with_side now.sides side (with_landed (at_side now.sides side) place) }
+pair_after now (Lands side place) = record now { sides = with_side now.sides side (trace_with_landed (at_side now.sides side) place) }
 pair_after now (Waits side place) = now
 pair_after now Nothing = now
 
@@ -120,8 +120,8 @@ no_write = record { number = 0; class = 0 }
 abbrev pub write_at : List FlyingWrite → ℕ → FlyingWrite
 write_at flight place = slice_index_or flight place no_write
 
-abbrev pub number_at : List FlyingWrite → ℕ → ℕ
-number_at flight place = (write_at flight place).number
+abbrev pub trace_number_at : List FlyingWrite → ℕ → ℕ
+trace_number_at flight place = (write_at flight place).number
 
 -- the number of the last of these writes that has a traffic class; 0 where none has
 abbrev pub last_of_class : ℕ → List FlyingWrite → ℕ

@@ -1,7 +1,7 @@
 //! The first line of a trace, and what it ends with.
 
 ghost use Rattle.std.specs.Prelude.{◌≡◌, ◌++◌, OnOk};
-ghost use Rattle.trace_command.specs.Lines.{count_lines, count_members, counter_members, device_line, device_lines, ending, first_line, lane_line, lane_lines, lane_object};
+ghost use Rattle.trace_command.specs.Lines.{trace_count_lines, count_members, counter_members, trace_device_line, trace_device_lines, trace_ending, first_line, lane_line, trace_lane_lines, lane_object};
 
 use crate::members::{push_number_member, push_text_member};
 use crate::steps::push_pair_name;
@@ -26,7 +26,7 @@ pub fn push_ending(
     lanes: &[LaneCount],
     devs: &[Counters],
 ) -> Result<(), AllocError>
-    ensures { OnOk result (text.new.items ≡ text.old.items ++ ending plan.now lanes.now devs.now) }
+    ensures { OnOk result (text.new.items ≡ text.old.items ++ trace_ending plan.now lanes.now devs.now) }
 {
     push_lanes(text, plan.pairs.as_slice(), lanes)?;
     push_devices(text, plan.devs.as_slice(), devs)?;
@@ -39,7 +39,7 @@ fn push_lanes(
     pairs: &[PairPlan],
     counts: &[LaneCount],
 ) -> Result<(), AllocError>
-    ensures { OnOk result (text.new.items ≡ text.old.items ++ lane_lines pairs.now counts.now) }
+    ensures { OnOk result (text.new.items ≡ text.old.items ++ trace_lane_lines pairs.now counts.now) }
 {
     for count in counts {
         push_count(text, pairs, count)?;
@@ -49,7 +49,7 @@ fn push_lanes(
 
 // Adds the line of what a lane accepted and delivered, where either isn't 0.
 fn push_count(text: &mut Vec<u8>, pairs: &[PairPlan], count: &LaneCount) -> Result<(), AllocError>
-    ensures { OnOk result (text.new.items ≡ text.old.items ++ count_lines pairs.now count.now) }
+    ensures { OnOk result (text.new.items ≡ text.old.items ++ trace_count_lines pairs.now count.now) }
 {
     if count.accepted == 0 && count.delivered == 0 {
         return Ok(());
@@ -99,7 +99,7 @@ fn push_devices(
     devs: &[DevPlan],
     counters: &[Counters],
 ) -> Result<(), AllocError>
-    ensures { OnOk result (text.new.items ≡ text.old.items ++ device_lines devs.now counters.now) }
+    ensures { OnOk result (text.new.items ≡ text.old.items ++ trace_device_lines devs.now counters.now) }
 {
     for (dev, counts) in devs.iter().zip(counters) {
         push_device(text, dev, counts)?;
@@ -109,7 +109,7 @@ fn push_devices(
 
 // Adds the line of a device, with its counters.
 fn push_device(text: &mut Vec<u8>, dev: &DevPlan, counts: &Counters) -> Result<(), AllocError>
-    ensures { OnOk result (text.new.items ≡ text.old.items ++ device_line dev.now counts.now) }
+    ensures { OnOk result (text.new.items ≡ text.old.items ++ trace_device_line dev.now counts.now) }
 {
     push_word(text, "{\"device\":\"")?;
     text.extend_from_slice(dev.name.bytes())?;

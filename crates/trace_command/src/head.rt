@@ -6,7 +6,7 @@ ghost use Rattle.pair_model.specs.DeclaredPlans.{IsPair};
 ghost use Rattle.pair_model.specs.Orders.{classes_of};
 ghost use Rattle.pair_model.specs.Plans.{side_plan};
 ghost use Rattle.pair_model.specs.Sizes.{agreed_version as version_of};
-ghost use Rattle.trace_command.specs.Head.{head, pair_line, ring_after, ring_object, side_object};
+ghost use Rattle.trace_command.specs.Head.{trace_head, trace_pair_line, ring_after, ring_object, side_object};
 ghost use Rattle.trace_command.specs.Words.{truth_text};
 
 use crate::ending::push_first_line;
@@ -20,7 +20,7 @@ use step_kinds::{PairPlan, Side};
 /// declare. Returns an error if memory runs out.
 pub fn push_head(text: &mut Vec<u8>, pairs: &[PairPlan]) -> Result<(), AllocError>
     requires { All IsPair pairs.now }
-    ensures { OnOk result (text.new.items ≡ text.old.items ++ head pairs.now) }
+    ensures { OnOk result (text.new.items ≡ text.old.items ++ trace_head pairs.now) }
 {
     push_first_line(text)?;
     push_pairs(text, pairs)
@@ -29,7 +29,7 @@ pub fn push_head(text: &mut Vec<u8>, pairs: &[PairPlan]) -> Result<(), AllocErro
 // Adds the lines of pairs.
 fn push_pairs(text: &mut Vec<u8>, pairs: &[PairPlan]) -> Result<(), AllocError>
     requires { All IsPair pairs.now }
-    ensures { OnOk result (text.new.items ≡ text.old.items ++ flat_map pair_line pairs.now) }
+    ensures { OnOk result (text.new.items ≡ text.old.items ++ flat_map trace_pair_line pairs.now) }
 {
     for pair in pairs {
         push_pair(text, pair)?;
@@ -40,7 +40,7 @@ fn push_pairs(text: &mut Vec<u8>, pairs: &[PairPlan]) -> Result<(), AllocError>
 // Adds the line of a pair.
 fn push_pair(text: &mut Vec<u8>, pair: &PairPlan) -> Result<(), AllocError>
     requires { IsPair pair.now }
-    ensures { OnOk result (text.new.items ≡ text.old.items ++ pair_line pair.now) }
+    ensures { OnOk result (text.new.items ≡ text.old.items ++ trace_pair_line pair.now) }
 {
     push_text_member(text, "{\"pair\":", pair.name.bytes())?;
     push_truth(text, ",\"up\":", pair.up)?;

@@ -7,7 +7,7 @@ ghost use Rattle.trace_command.specs.Laws.{
   LandingsAreOfTheirLabels,
   TracesFollowTheLog,
 };
-ghost use Rattle.trace_command.specs.Traces.{TracesAreTrue};
+ghost use Rattle.trace_command.specs.Traces.{PairTracesAreTrue};
 
 /// A landing names the number of a write that was posted before, and that write has the label that landed.
 pub fn landings_are_of_their_labels()
@@ -35,5 +35,5 @@ pub fn traces_follow_the_log()
 /// landed, and a blocked one that of an earlier write which stops it. After any lines each number stands once. The log
 /// is that of a plan with switches or without. Premise: the pair is one of the plan.
 pub fn traces_are_true()
-    ensures { TracesAreTrue }
+    ensures { PairTracesAreTrue }
 {}

@@ -2,8 +2,8 @@
 
 ghost use Rattle.std.specs.Prelude.{◌≡◌, ◌++◌, OnOk, codes};
 ghost use Rattle.trace_command.specs.Words.{number_member};
-ghost use Rattle.trace_command.specs.Writes.{number_at};
-ghost use Rattle.trace_command.specs.Lines.{change_members, dropped_members, link_members, made_member, step_line};
+ghost use Rattle.trace_command.specs.Writes.{trace_number_at};
+ghost use Rattle.trace_command.specs.Lines.{change_members, dropped_members, link_members, made_member, trace_step_line};
 ghost use Rattle.trace_command.specs.declared.changes.Change.TheVariants.{Posts};
 
 use crate::answers::push_answer;
@@ -25,7 +25,7 @@ pub fn push_step_line(
     step: &Step,
     made: &LineAnswer,
 ) -> Result<(), AllocError>
-    ensures { OnOk result (text.new.items ≡ text.old.items ++ step_line plan.now writes.now step.now made.now) }
+    ensures { OnOk result (text.new.items ≡ text.old.items ++ trace_step_line plan.now writes.now step.now made.now) }
 {
     push_word(text, "{\"line\":")?;
     push_number(text, u64::from(made.line))?;
@@ -89,7 +89,7 @@ fn push_post(text: &mut Vec<u8>, pair: &PairNumbers, side: Side) -> Result<(), A
 
 // Adds the number of the write at a place in flight.
 fn push_flying(text: &mut Vec<u8>, side: &SideNumbers, place: u32) -> Result<(), AllocError>
-    ensures { OnOk result (text.new.items ≡ text.old.items ++ number_member (codes ",\"write\":") (number_at side.now.flight place)) }
+    ensures { OnOk result (text.new.items ≡ text.old.items ++ number_member (codes ",\"write\":") (trace_number_at side.now.flight place)) }
 {
     push_number_member(text, ",\"write\":", side.write_at(place as usize).number)
 }

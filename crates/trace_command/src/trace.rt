@@ -8,7 +8,7 @@ ghost use Rattle.ledger_model.specs.PlanLog.{device_counts as counts_of_devices,
 ghost use Rattle.cluster_core.specs.Counts.{filled};
 ghost use Rattle.cluster_core.specs.PlanSteps.{HasReplayed};
 ghost use Rattle.script_plan.specs.Scripts.{plan_in};
-ghost use Rattle.trace_command.specs.Lines.{ending};
+ghost use Rattle.trace_command.specs.Lines.{trace_ending};
 ghost use Rattle.trace_command.specs.Trace.{trace_start, trace_text as text_of_plan, with_line};
 
 use crate::ending::push_ending;
@@ -113,7 +113,7 @@ fn push_counts(
 ) -> Result<(), AllocError>
     requires whole { IsWhole (plan_in script.now) }
     requires made { HasReplayed (plan_in script.now) script.now.steps cluster.now }
-    ensures { OnOk result (text.new.items ≡ text.old.items ++ ending script.now.declared
+    ensures { OnOk result (text.new.items ≡ text.old.items ++ trace_ending script.now.declared
         (filled (counts_of_lanes (plan_in script.now) (log_of_plan (plan_in script.now))))
         (counts_of_devices (plan_in script.now) (log_of_plan (plan_in script.now)))) }
 {

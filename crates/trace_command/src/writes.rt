@@ -10,8 +10,8 @@ ghost use Rattle.trace_command.specs.Writes.{
   pair_start,
   stopped_by,
   with_dropped,
-  with_landed,
-  with_posted,
+  trace_with_landed,
+  trace_with_posted,
   write_at,
   writes_after,
   writes_start,
@@ -111,7 +111,7 @@ impl SideNumbers {
     // One write more is posted, and is in flight. Out of memory is also the answer where the side has posted 2^64 - 1
     // writes.
     fn post(&mut self, class: u32) -> Result<(), AllocError>
-        ensures { OnOk result (self.new ≡ with_posted self.old class) }
+        ensures { OnOk result (self.new ≡ trace_with_posted self.old class) }
     {
         let posted = self.posted.checked_add(1).ok_or(AllocError)?;
         self.flight.promise(1)?;
@@ -125,7 +125,7 @@ impl SideNumbers {
 
     // The write at a place is no longer in flight.
     fn land(&mut self, place: u32)
-        ensures { self.new ≡ with_landed self.old place }
+        ensures { self.new ≡ trace_with_landed self.old place }
     {
         let _ = self.flight.land(place as usize);
     }
@@ -196,7 +196,7 @@ impl PairNumbers {
 
     // One write more is posted by a side, and is in flight.
     fn post(&mut self, side: Side, class: u32) -> Result<(), AllocError>
-        ensures { OnOk result (self.new ≡ record self.old { sides = with_side self.old.sides side (with_posted (at_side self.old.sides side) class) }) }
+        ensures { OnOk result (self.new ≡ record self.old { sides = with_side self.old.sides side (trace_with_posted (at_side self.old.sides side) class) }) }
     {
         match side {
             Side::A => self.a.post(class),
@@ -206,7 +206,7 @@ impl PairNumbers {
 
     // The write at a place of a side is no longer in flight.
     fn land(&mut self, side: Side, place: u32)
-        ensures { self.new ≡ record self.old { sides = with_side self.old.sides side (with_landed (at_side self.old.sides side) place) } }
+        ensures { self.new ≡ record self.old { sides = with_side self.old.sides side (trace_with_landed (at_side self.old.sides side) place) } }
     {
         match side {
             Side::A => self.a.land(place),

@@ -12,7 +12,7 @@ use Rattle.step_kinds.specs.declared.steps.Step.TheVariants.{Post, Land, Copy, C
 use Rattle.lane_model.specs.Lane.{chunks_in}
 use Rattle.pair_model.specs.Macros.{send, receive}
 use Rattle.step_list.specs.Compact.{lines_with}
-use Rattle.traffic_plan.specs.Load.{eight_of, word_at, state_past, state_after, word_of, load_pair, length_of, payload_of, landings_of, frame_steps, frame_lines, lines_of_frame, LoadGiven, frames_given}
+use Rattle.traffic_plan.specs.Load.{eight_of, load_word_at, state_past, state_after, word_of, load_pair, length_of, payload_of, landings_of, load_frame_steps, load_frame_lines, lines_of_frame, LoadGiven, frames_given}
 
 -- a state is a number of 64 bits
 past_small : (state : ℕ) → state_past state < 2 ^ 64
@@ -26,11 +26,11 @@ state_small seed (suc n) small = past_small (state_after seed n)
 
 -- the two words of a frame, and the state after it
 pub words_of_frame : (seed k state : ℕ) → state ≡ state_after seed (2 * k)
-    → (word_at state ≡ word_of seed (2 * k)) × (word_at (state_past state) ≡ word_of seed (2 * k + 1)) × (state_past (state_past state) ≡ state_after seed (2 * (k + 1)))
+    → (load_word_at state ≡ word_of seed (2 * k)) × (load_word_at (state_past state) ≡ word_of seed (2 * k + 1)) × (state_past (state_past state) ≡ state_after seed (2 * (k + 1)))
 words_of_frame seed k state is =
     let next : state_past state ≡ state_after seed (2 * k + 1) = ap state_past is ∙ sym (ap (state_after seed) (add-one (2 * k))) in
     let double : 2 * (k + 1) ≡ suc (2 * k + 1) = omega arith in
-    (ap word_at is, ap word_at next, ap state_past next ∙ sym (ap (state_after seed) double))
+    (ap load_word_at is, ap load_word_at next, ap state_past next ∙ sym (ap (state_after seed) double))
 
 -- the lines of one frame more
 more-suc : (f : ℕ → List Line) (a n : ℕ) → flat_map f (range_with_len a (suc n)) ≡ flat_map f (range_with_len a n) ++ f (a + n)
@@ -54,12 +54,12 @@ frame_more seed k load old new given was is =
 
 -- the lines of the frame whose words were drawn
 pub frame_drawn : {X E : Type 0} (seed given word landings : ℕ) (load : LoadGiven) (old new : List Line) (result : Result X E) → frames_given seed given ≡ load
-    → word ≡ word_of seed (2 * given) → landings ≡ word_of seed (2 * given + 1) → OnOk result (new ≡ old ++ frame_lines (given + 1) word landings)
+    → word ≡ word_of seed (2 * given) → landings ≡ word_of seed (2 * given + 1) → OnOk result (new ≡ old ++ load_frame_lines (given + 1) word landings)
     → OnOk result (new ≡ old ++ lines_of_frame load.seed load.given)
 frame_drawn seed given word landings load old new result same first second pushed =
     subst (λ (load : LoadGiven). OnOk result (new ≡ old ++ lines_of_frame load.seed load.given)) same
-    (subst (λ (w : ℕ). OnOk result (new ≡ old ++ frame_lines (given + 1) (word_of seed (2 * given)) w)) second
-    (subst (λ (w : ℕ). OnOk result (new ≡ old ++ frame_lines (given + 1) w landings)) first pushed))
+    (subst (λ (w : ℕ). OnOk result (new ≡ old ++ load_frame_lines (given + 1) (word_of seed (2 * given)) w)) second
+    (subst (λ (w : ℕ). OnOk result (new ≡ old ++ load_frame_lines (given + 1) w landings)) first pushed))
 
 -- one step more of those that a number says
 pub appended : (line : ℕ) (f : ℕ → Step) (i : ℕ) (before old new : List Line) → old ≡ before ++ lines_with line (map f (range_with_len 0 i)) → new ≡ old ++ lines_with line (f i ∷ [])
@@ -180,7 +180,7 @@ length_receive copies =
     omega arith
 
 -- A frame of a load takes at most 30 steps.
-pub few_steps : (word landings : ℕ) → length (frame_steps word landings) ≤ 30
+pub few_steps : (word landings : ℕ) → length (load_frame_steps word landings) ≤ 30
 few_steps word landings =
     let chunks = chunks_in (length_of word) in
     let parts = five (send load_pair 0 A 0 (payload_of word)) (landings_of landings) (replicate (chunks + 4) (Land 0 A 0)) (receive 0 B 0 chunks) (Land 0 B 0 ∷ []) in

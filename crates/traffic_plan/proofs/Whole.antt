@@ -14,7 +14,7 @@ use Rattle.pair_model.specs.Macros.{send, land_all, receive, posts_in}
 use Rattle.pair_model.specs.Plans.{no_pair}
 use Rattle.pair_model.specs.Switches.{IsMakeable, IsSwitch}
 use Rattle.traffic_plan.specs.Laws.{LoadIsWhole}
-use Rattle.traffic_plan.specs.Load.{load_pair, length_of, payload_of, landings_of, frame_steps, lines_of_frame, word_of, plan_of}
+use Rattle.traffic_plan.specs.Load.{load_pair, length_of, payload_of, landings_of, load_frame_steps, lines_of_frame, word_of, load_plan_of}
 use Rattle.traffic_plan.proofs.Frames.{length_payload, few_bytes, few_steps, few_lines}
 
 -- the pair
@@ -50,7 +50,7 @@ each_pair : (k : ℕ) → k < 1 → IsPair (slice_index_or (load_pair ∷ []) k 
 each_pair zero h = pair_is
 each_pair (suc k) h = absurd (omega arith)
 
-declared : (lines : List Line) → IsDeclared (plan_of lines)
+declared : (lines : List Line) → IsDeclared (load_plan_of lines)
 declared lines = record {
   few_pairs = lit≤ tt;
   pairs = each_pair;
@@ -61,12 +61,12 @@ declared lines = record {
 
 -- the steps
 
-queue_of : (lines : List Line) (side : Side) → IsQueueOf (plan_of lines) 0 side 0
+queue_of : (lines : List Line) (side : Side) → IsQueueOf (load_plan_of lines) 0 side 0
 queue_of lines A = record { declared = lit< tt; among = lit< tt }
 queue_of lines B = record { declared = lit< tt; among = lit< tt }
 
 abbrev Permitted : List Line → Step → Type 0
-Permitted lines step = IsPermitted (plan_of lines) step
+Permitted lines step = IsPermitted (load_plan_of lines) step
 
 frame_is : (word : ℕ) → IsFrame (payload_of word)
 frame_is word = let len = length_payload word in let few = few_bytes word in (omega arith, omega arith)
@@ -87,7 +87,7 @@ landings_permitted : (lines : List Line) (landings : ℕ) → All (Permitted lin
 landings_permitted lines landings =
     All-map (Permitted lines) (λ i. Land 0 A (landings / 2 ^ (8 * i) % 4)) (range_with_len 0 8) (λ k d h. lit< tt)
 
-frame_permitted : (lines : List Line) (word landings : ℕ) → All (Permitted lines) (frame_steps word landings)
+frame_permitted : (lines : List Line) (word landings : ℕ) → All (Permitted lines) (load_frame_steps word landings)
 frame_permitted lines word landings =
     let P : Step → Type 0 = Permitted lines in
     let chunks = chunks_in (length_of word) in
@@ -109,10 +109,10 @@ each_frame P f each a zero = All-nil P
 each_frame P f each a (suc n) = All-append P (f a) (flat_map f (range_with_len (a + 1) n)) (each a) (each_frame P f each (a + 1) n)
 
 -- Each step of each frame of a load is permitted by a plan of the load's pair, whatever lines that plan has.
-pub lines_permitted : (lines : List Line) (seed k : ℕ) → All (λ line. IsPermitted (plan_of lines) line.step) (lines_of_frame seed k)
+pub lines_permitted : (lines : List Line) (seed k : ℕ) → All (λ line. IsPermitted (load_plan_of lines) line.step) (lines_of_frame seed k)
 lines_permitted lines seed k =
-    let steps = frame_steps (word_of seed (2 * k)) (word_of seed (2 * k + 1)) in
-    All-map (λ line. IsPermitted (plan_of lines) line.step) (λ step. record { line = k + 1; step = step }) steps
+    let steps = load_frame_steps (word_of seed (2 * k)) (word_of seed (2 * k + 1)) in
+    All-map (λ line. IsPermitted (load_plan_of lines) line.step) (λ step. record { line = k + 1; step = step }) steps
     (frame_permitted lines (word_of seed (2 * k)) (word_of seed (2 * k + 1)))
 
 few_of_frame : (seed k : ℕ) → length (lines_of_frame seed k) ≤ 30
@@ -120,7 +120,7 @@ few_of_frame seed k =
     let word = word_of seed (2 * k) in
     let landings = word_of seed (2 * k + 1) in
     let made : Step → Line = λ step. record { line = k + 1; step = step } in
-    let same = length-map (frame_steps word landings) made in
+    let same = length-map (load_frame_steps word landings) made in
     let few = few_steps word landings in
     omega (arith, same, few)
 
@@ -130,9 +130,9 @@ load_is_whole seed frames most =
     let lines = flat_map (lines_of_frame seed) (range_with_len 0 frames) in
     record {
       declared = declared lines;
-      switches = record { few = lit≤ tt; each = All-nil (IsSwitch (plan_of lines)); apart = λ i j d lt within. absurd (omega arith) };
-      steps = All-weaker (λ line. IsPermitted (plan_of lines) line.step) (λ line. IsMakeable (plan_of lines) line.step) (λ line may. inl may) lines
-          (each_frame (λ line. IsPermitted (plan_of lines) line.step) (lines_of_frame seed) (lines_permitted lines seed) 0 frames);
+      switches = record { few = lit≤ tt; each = All-nil (IsSwitch (load_plan_of lines)); apart = λ i j d lt within. absurd (omega arith) };
+      steps = All-weaker (λ line. IsPermitted (load_plan_of lines) line.step) (λ line. IsMakeable (load_plan_of lines) line.step) (λ line may. inl may) lines
+          (each_frame (λ line. IsPermitted (load_plan_of lines) line.step) (lines_of_frame seed) (lines_permitted lines seed) 0 frames);
       few_steps = omega (arith, few_lines (lines_of_frame seed) (few_of_frame seed) 0 frames, most);
       traffic = All-nil _;
       few_frames = lit≤ tt;

@@ -3,7 +3,7 @@ use Rattle.std.specs.Prelude.{◌≡◌, ℕ, [], ◌∷◌, ◌++◌, List, map
 use Rattle.step_kinds.specs.declared.names.Side.TheVariants.{A, B}
 use Rattle.step_kinds.specs.declared.steps.Step.{Step}
 use Rattle.step_kinds.specs.declared.steps.Step.TheVariants.{Begin, Post, Land, Look, Copy, Clear, Ack}
-use Rattle.traffic_plan.specs.Load.{frame_lines, frame_steps, landings_of, length_of, payload_of, word_of}
+use Rattle.traffic_plan.specs.Load.{load_frame_lines, load_frame_steps, landings_of, length_of, payload_of, word_of}
 
 -- the words that SplitMix64 gives for seed 1, by its published code
 abbrev pub WordsOfSeedOne : Type 0
@@ -31,10 +31,10 @@ PlacesOfWords =
 -- a frame of one byte has five writes; each of its steps stands on its line
 abbrev pub StepsOfAFrame : Type 0
 StepsOfAFrame =
-    (frame_steps 0 0x0706050403020100
+    (load_frame_steps 0 0x0706050403020100
     ≡ Begin 0 A 0 (0 ∷ []) ∷ replicate 5 (Post 0 A 0) ++ lands (0 ∷ 1 ∷ 2 ∷ 3 ∷ 0 ∷ 1 ∷ 2 ∷ 3 ∷ []) ++ replicate 5 (Land 0 A 0)
     ++ Look 0 B 0 ∷ Copy 0 B 0 ∷ Clear 0 B 0 ∷ Ack 0 B 0 ∷ Land 0 B 0 ∷ [])
-    × (map (λ line. line.line) (frame_lines 3 0 0) ≡ replicate 24 3)
+    × (map (λ line. line.line) (load_frame_lines 3 0 0) ≡ replicate 24 3)
 
 pub record ExamplesHold : Type 0 where
   pub words_of_seed_one : WordsOfSeedOne

@@ -16,8 +16,8 @@ use Rattle.pair_settings.specs.declared.settings.SideKey.TheVariants.{Size}
 use Rattle.pair_settings.specs.declared.settings.Setting.TheVariants.{Up, Mtu, OfSide}
 
 -- the word that SplitMix64 gives at a state, and the state after it
-unfoldable pub word_at : ℕ → ℕ
-word_at state = (mix_u64 state).0
+unfoldable pub load_word_at : ℕ → ℕ
+load_word_at state = (mix_u64 state).0
 
 unfoldable pub state_past : ℕ → ℕ
 state_past state = (mix_u64 state).1
@@ -29,7 +29,7 @@ state_after seed (suc n) = state_past (state_after seed n)
 
 -- word n of a seed, from 0
 abbrev pub word_of : ℕ → ℕ → ℕ
-word_of seed n = word_at (state_after seed n)
+word_of seed n = load_word_at (state_after seed n)
 
 -- the frames that a load has at most
 abbrev pub most_load_frames : ℕ
@@ -56,24 +56,24 @@ landings_of word = map (λ i. Land 0 A (word / 2 ^ (8 * i) % 4)) (range_with_len
 
 -- The frame is sent, and eight landings are tried. Then landings of the first write in flight are tried, as many as the
 -- frame has writes. The peer receives the frame, and its index write lands.
-abbrev pub frame_steps : ℕ → ℕ → List Step
-frame_steps word landings =
+abbrev pub load_frame_steps : ℕ → ℕ → List Step
+load_frame_steps word landings =
     let chunks = chunks_in (length_of word) in
     send load_pair 0 A 0 (payload_of word) ++ landings_of landings ++ land_all 0 A (chunks + 4) ++ receive 0 B 0 chunks ++ Land 0 B 0 ∷ []
 
-abbrev pub frame_lines : ℕ → ℕ → ℕ → List Line
-frame_lines line word landings = lines_with line (frame_steps word landings)
+abbrev pub load_frame_lines : ℕ → ℕ → ℕ → List Line
+load_frame_lines line word landings = lines_with line (load_frame_steps word landings)
 
 -- frame k, from 0: its line, counted from 1, and its two words
 abbrev pub lines_of_frame : ℕ → ℕ → List Line
-lines_of_frame seed k = frame_lines (k + 1) (word_of seed (2 * k)) (word_of seed (2 * k + 1))
+lines_of_frame seed k = load_frame_lines (k + 1) (word_of seed (2 * k)) (word_of seed (2 * k + 1))
 
 -- a plan of the one pair with these steps
-abbrev pub plan_of : List Line → Plan
-plan_of lines = record { pairs = load_pair ∷ []; devs = []; switches = []; steps = lines; traffic = [] }
+abbrev pub load_plan_of : List Line → Plan
+load_plan_of lines = record { pairs = load_pair ∷ []; devs = []; switches = []; steps = lines; traffic = [] }
 
 abbrev pub load_of : ℕ → ℕ → Plan
-load_of seed frames = plan_of (flat_map (lines_of_frame seed) (range_with_len 0 frames))
+load_of seed frames = load_plan_of (flat_map (lines_of_frame seed) (range_with_len 0 frames))
 
 -- a load whose frames are given one after another: its seed, and how many were given
 pub record LoadGiven : Type 0 where

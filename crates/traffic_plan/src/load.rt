@@ -3,7 +3,7 @@
 ghost use Rattle.std.specs.Prelude.{◌≡◌, ◌∷◌, [], ◌++◌, ◌+◌, ◌^◌, ◌<◌, ◌≤◌, length, IfOk, OnErr, OnOk};
 ghost use Rattle.std.specs.Int.{bytes_low_first};
 ghost use Rattle.lane_model.specs.Lane.{chunks_in};
-ghost use Rattle.traffic_plan.specs.Load.{eight_of, word_at, state_past, load_pair, most_load_frames, length_of, payload_of, frame_lines, frames_given, lines_of_frame, load_of, plan_of};
+ghost use Rattle.traffic_plan.specs.Load.{eight_of, load_word_at, state_past, load_pair, most_load_frames, length_of, payload_of, load_frame_lines, frames_given, lines_of_frame, load_of, load_plan_of};
 
 use crate::steps::{land, land_all, push_landings, receive, send};
 use pair_settings::{Setting, SideKey, pair_with};
@@ -21,8 +21,8 @@ pub const MOST_LOAD_FRAMES: u32 = 30_000;
 
 /// Returns the two words of the next frame.
 fn frame_words(words: &mut SplitMix64) -> (u64, u64)
-    ensures first { result.0 ≡ word_at words.old }
-    ensures second { result.1 ≡ word_at (state_past words.old) }
+    ensures first { result.0 ≡ load_word_at words.old }
+    ensures second { result.1 ≡ load_word_at (state_past words.old) }
     ensures state { words.new ≡ state_past (state_past words.old) }
 {
     let word = words.next_word();
@@ -79,7 +79,7 @@ fn push_frame(
     word: u64,
     landings: u64,
 ) -> Result<(), AllocError>
-    ensures { OnOk result (steps.new ≡ steps.old ++ frame_lines line word landings) }
+    ensures { OnOk result (steps.new ≡ steps.old ++ load_frame_lines line word landings) }
 {
     let frame = payload(alloc, word)?;
     let chunks = chunks_in(frame.len());
@@ -161,7 +161,7 @@ fn load_lines(alloc: Global, seed: u64, frames: u32) -> Result<Items<Line>, Allo
 /// window of 4,096 bytes and an mtu of 1,023 on both sides. It is neither strict nor raw, and each class is 0. Returns
 /// an error if memory runs out.
 pub fn load_without_steps(alloc: Global) -> Result<Plan, AllocError>
-    ensures { IfOk result (λ plan. plan ≡ plan_of []) }
+    ensures { IfOk result (λ plan. plan ≡ load_plan_of []) }
 {
     let mut pairs = Items::new(alloc);
     pairs.push(load_pair())?;

@@ -2,7 +2,7 @@
 
 ghost use Rattle.std.specs.Prelude.{◌≡◌, ◌∷◌, ◌++◌, [], OnOk};
 ghost use Rattle.pair_model.specs.Macros.{send, land_all, receive};
-ghost use Rattle.step_list.specs.Compact.{steps_of, lines_with};
+ghost use Rattle.step_list.specs.Compact.{line_steps_of, lines_with};
 ghost use Rattle.step_kinds.specs.declared.names.Side.TheVariants.{A, B};
 ghost use Rattle.step_kinds.specs.declared.steps.Step.TheVariants.{Land};
 ghost use Rattle.traffic_plan.specs.Load.{load_pair, landings_of};
@@ -14,7 +14,7 @@ use step_list::{Macro, Repeated, StepList};
 
 /// Side A begins a frame and posts all its writes.
 pub fn send(frame: Frame) -> Macro
-    ensures { steps_of result ≡ send load_pair 0 A 0 frame }
+    ensures { line_steps_of result ≡ send load_pair 0 A 0 frame }
 {
     let (pair, side, queue) = (0, Side::A, 0);
     let count = writes_in(frame.len());
@@ -33,7 +33,7 @@ pub fn send(frame: Frame) -> Macro
 /// The write of a side that stands at a place in flight lands once.
 #[inline]
 pub fn land(side: Side, place: u32) -> Macro
-    ensures { steps_of result ≡ Land 0 side place ∷ [] }
+    ensures { line_steps_of result ≡ Land 0 side place ∷ [] }
 {
     Macro::Again {
         repeated: Repeated::Land {
@@ -47,7 +47,7 @@ pub fn land(side: Side, place: u32) -> Macro
 
 /// The first write of side A in flight lands, this many times.
 pub fn land_all(count: u32) -> Macro
-    ensures { steps_of result ≡ land_all 0 A count }
+    ensures { line_steps_of result ≡ land_all 0 A count }
 {
     Macro::Again {
         repeated: Repeated::Land {
@@ -61,7 +61,7 @@ pub fn land_all(count: u32) -> Macro
 
 /// Side B receives a frame in this many copies.
 pub fn receive(copies: u32) -> Macro
-    ensures { steps_of result ≡ receive 0 B 0 copies }
+    ensures { line_steps_of result ≡ receive 0 B 0 copies }
 {
     Macro::Received {
         pair: 0,

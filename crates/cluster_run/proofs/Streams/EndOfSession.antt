@@ -7,9 +7,9 @@ use Rattle.stream_model.specs.Fronts.{Begins}
 use Rattle.stream_model.specs.Sender.{Sender, frames_of, session_frames}
 use Rattle.table_lane.specs.EndOfLane.{Shown}
 use Rattle.cluster_run.specs.stream.Leaving.{LeavesSink, LeavesSource}
-use Rattle.cluster_run.specs.stream.SessionFields.{IsSession, session_of}
-use Rattle.cluster_run.specs.stream.Sessions.{EndsWith}
-use Rattle.cluster_run.specs.stream.Workers.{SessionState}
+use Rattle.cluster_run.specs.stream.SessionFields.{IsStreamSession, stream_session_of}
+use Rattle.cluster_run.specs.stream.Sessions.{StreamEndsWith}
+use Rattle.cluster_run.specs.stream.Workers.{StreamSessionState}
 use Rattle.cluster_run.specs.declared.stream.session.Session.TheInside.{Inside}
 use Rattle.cluster_run.specs.declared.stream.session.SessionEnd.{SessionEnd}
 use Rattle.cluster_run.specs.declared.stream.sink.SinkEnd.{SinkEnd}
@@ -38,13 +38,13 @@ pub shown_with : {sent got : List (List ℕ)} {entries : ℕ} {cut cut' : Bool} 
 shown_with {sent = sent} {got = got} {entries = entries} shown same = shown ∙ ap (λ (cut : Bool). record { sent = sent; got = got; entries = entries; cut = cut }) same
 
 -- Where source and sink leave their ends and both lanes end, the session ends with these ends and both proofs.
-pub ends_with : (s : Inside) (session : SessionState) (source : SourceEnd) (sink : SinkEnd) (item_proof ack_proof : Shown) (left acks_left : List (List ℕ)) → IsSession s → session_of s ≡ session
+pub ends_with : (s : Inside) (session : StreamSessionState) (source : SourceEnd) (sink : SinkEnd) (item_proof ack_proof : Shown) (left acks_left : List (List ℕ)) → IsStreamSession s → stream_session_of s ≡ session
     → LeavesSource s.source source → LeavesSink s.sink sink → LanesEnd source sink s.cutting.cut item_proof ack_proof left acks_left
-    → EndsWith session (record { sender = source.sender; receiver = sink.receiver; acks = source.acks; item_proof = item_proof; ack_proof = ack_proof })
+    → StreamEndsWith session (record { sender = source.sender; receiver = sink.receiver; acks = source.acks; item_proof = item_proof; ack_proof = ack_proof })
 ends_with s session source sink item_proof ack_proof left acks_left holds session_is leaves keeps ends =
     let end : SessionEnd = record { sender = source.sender; receiver = sink.receiver; acks = source.acks; item_proof = item_proof; ack_proof = ack_proof } in
-    let entries : source.send.part.entries ≡ (session_of s).key.entries = leaves.entries in
-    let ack_entries : sink.send.part.entries ≡ (session_of s).key.entries = keeps.entries ∙ (sym holds.ring.1 ∙ holds.ring.0) in
+    let entries : source.send.part.entries ≡ (stream_session_of s).key.entries = leaves.entries in
+    let ack_entries : sink.send.part.entries ≡ (stream_session_of s).key.entries = keeps.entries ∙ (sym holds.ring.1 ∙ holds.ring.0) in
     let offered = leaves.offered in
     let many = ap length offered.given in
     let few = given_few source.sender in
@@ -54,7 +54,7 @@ ends_with s session source sink item_proof ack_proof left acks_left holds sessio
     let ever = leaves.ever in
     let all = ap length leaves.items in
     let most = offered.few in
-    subst (λ (session : SessionState). EndsWith session end) session_is (record {
+    subst (λ (session : StreamSessionState). StreamEndsWith session end) session_is (record {
       exchange = record { sent = source.send.part.sent; got = sink.recv.part.got; acks_sent = sink.send.part.sent; acks_got = source.recv.part.got };
       items_shown = ends.items_shown ∙ ap (λ (n : ℕ). record { sent = source.send.part.sent; got = sink.recv.part.got; entries = n; cut = s.cutting.cut }) entries;
       acks_shown = ends.acks_shown ∙ ap (λ (n : ℕ). record { sent = sink.send.part.sent; got = source.recv.part.got; entries = n; cut = s.cutting.cut }) ack_entries;

@@ -8,7 +8,7 @@ use Rattle.stream_model.specs.Numbers.{SaysAtMost}
 use Rattle.stream_model.specs.Receiver.{Receiver, ack_frame, taken}
 use Rattle.stream_model.specs.declared.Session.{Session}
 use Rattle.stream_model.specs.declared.Session.TheVariants.{Fresh}
-use Rattle.table_lane.specs.Ends.{Sender, Receiver as Getter}
+use Rattle.table_lane.specs.Ends.{TableSender, TableReceiver as Getter}
 use Rattle.cluster_run.specs.stream.Ends.{Grows}
 use Rattle.cluster_run.specs.stream.WorkerFields.{IsSink}
 use Rattle.cluster_run.specs.declared.stream.sink.Sink.TheInside.{Inside}
@@ -29,7 +29,7 @@ kept_more w w' most holds begun told acks grows few takes =
     let at_most = grows.few in
     let within = holds.begun in
     let counted = holds.told in
-    let sent : length w'.acks.part.sent ≡ length w.acks.part.sent = ap (λ (a : Sender). length a.part.sent) acks in
+    let sent : length w'.acks.part.sent ≡ length w.acks.part.sent = ap (λ (a : TableSender). length a.part.sent) acks in
     let front : take w.begun w.receiver.items ≡ take w'.begun w'.receiver.items =
     same_front w.begun most w.receiver.items w'.receiver.items within grows ∙ ap (λ (n : ℕ). take n w'.receiver.items) (sym begun) in
     record {
@@ -39,7 +39,7 @@ kept_more w w' most holds begun told acks grows few takes =
           let both = takes calm in
           both.1 (record { items = take w'.begun w'.receiver.items; session = Fresh })
           (holds.taken both.0 ∙ ap (λ (items : List (List ℕ)). fold taken (record { items = items; session = Fresh }) w.end.part.got) front);
-      acks = subst (λ (a : Sender). All (SaysAtMost (length w'.receiver.items)) a.part.sent) (sym acks)
+      acks = subst (λ (a : TableSender). All (SaysAtMost (length w'.receiver.items)) a.part.sent) (sym acks)
           (All-weaker (SaysAtMost (length w.receiver.items)) (SaysAtMost (length w'.receiver.items)) (λ frame says. (says.0, (let s = says.1 in omega arith), says.2)) w.acks.part.sent holds.acks);
       told = (let c = counted.0 in omega arith, let c = counted.1 in omega arith);
     }

@@ -7,14 +7,14 @@ use Rattle.std.proofs.lemmas.Option.{get_or_from_slice_get, slice_get_within}
 use Rattle.stream_laws.specs.Laws.{BackIsUngiven, NextFollows}
 use Rattle.stream_model.specs.Numbers.{number_frame}
 use Rattle.stream_model.specs.Receiver.{Receiver}
-use Rattle.stream_model.specs.Sender.{Sender, after_answer, after_next_frame, frames_of, given_back, next_frame, one_given, session_frames}
-use Rattle.table_lane.specs.SendAnswers.{Sends}
+use Rattle.stream_model.specs.Sender.{Sender, sender_after_answer, after_next_frame, frames_of, sender_given_back, next_frame, one_given, session_frames}
+use Rattle.table_lane.specs.SendAnswers.{TableSends}
 use Rattle.table_lane.specs.declared.send.SendAnswer.TheVariants.{Sent, NoRoom, Cut}
 use Rattle.table_lane.specs.declared.parts.SendPart.{SendPart}
 use Rattle.table_lane.specs.Knowledge.{link_loaded, index_loaded, head, free_by, frame_sent}
 use Rattle.table_lane.specs.Words.{cut_word}
-use Rattle.cluster_run.specs.stream.Ends.{GoesOn, HasOffered}
-use Rattle.cluster_run.specs.stream.Sessions.{CanBegin}
+use Rattle.cluster_run.specs.stream.Ends.{StreamGoesOn, HasOffered}
+use Rattle.cluster_run.specs.stream.Sessions.{CanStreamBegin}
 
 -- the frame that comes next has a byte, and stands within its session
 pub next_has_byte : (sender : Sender) (sent : List (List ℕ)) (frame : List ℕ) → HasOffered sender sent → next_frame sender ≡ Some frame → frame ≢ []
@@ -40,11 +40,11 @@ few_sent sender sent offered =
 
 -- the sender after its answer
 pub given_after : (sender after : Sender) (frame : List ℕ) → next_frame sender ≡ Some frame → after ≡ after_next_frame sender → after ≡ one_given sender
-given_after sender after frame next is = is ∙ ap (after_answer sender) next
+given_after sender after frame next is = is ∙ ap (sender_after_answer sender) next
 
 -- A sender that has no next frame is the same after it was asked for one.
 pub none_after : (sender after : Sender) → next_frame sender ≡ None → after ≡ after_next_frame sender → after ≡ sender
-none_after sender after next is = is ∙ ap (after_answer sender) next
+none_after sender after next is = is ∙ ap (sender_after_answer sender) next
 
 -- a frame was given and sent
 pub offered_more : NextFollows → (sender : Sender) (sent : List (List ℕ)) (frame : List ℕ) → HasOffered sender sent → next_frame sender ≡ Some frame → HasOffered (one_given sender) (sent ++ frame ∷ [])
@@ -68,37 +68,37 @@ sent_when before after frame number false true answer is = ap (λ (p : SendPart)
 sent_when before after frame number false false answer is = absurd (cc answer)
 
 -- Where a frame is answered as sent, it stands after the frames that its end sent before.
-pub sent_more : (before after : SendPart) (frame : List ℕ) (number : ℕ) → Sends before frame (Sent number) after → after.sent ≡ before.sent ++ frame ∷ []
+pub sent_more : (before after : SendPart) (frame : List ℕ) (number : ℕ) → TableSends before frame (Sent number) after → after.sent ≡ before.sent ++ frame ∷ []
 sent_more before after frame number sends =
     sent_when before after frame number (after.link == cut_word) (nat_lt 0 (free_by before after.index)) sends.0 sends.1
 
 -- A sender whose next frame was given and then sent on its lane has offered all that was sent, that frame included.
 pub offered_sent : NextFollows → (sender next : Sender) (before after : SendPart) (frame : List ℕ) (number : ℕ) → HasOffered sender before.sent → next_frame sender ≡ Some frame → next ≡ after_next_frame sender
-    → Sends before frame (Sent number) after → HasOffered next after.sent
+    → TableSends before frame (Sent number) after → HasOffered next after.sent
 offered_sent follows sender next before after frame number offered frame_is next_is sends =
     subst (λ (s : Sender). HasOffered s after.sent) (sym (given_after sender next frame frame_is next_is))
     (subst (λ (sent : List (List ℕ)). HasOffered (one_given sender) sent) (sym (sent_more before after frame number sends)) (offered_more follows sender before.sent frame offered frame_is))
 
 -- a frame was given and given back
-pub offered_same : BackIsUngiven → (sender after : Sender) (sent : List (List ℕ)) → HasOffered sender sent → after ≡ given_back (one_given sender) → HasOffered after sent
+pub offered_same : BackIsUngiven → (sender after : Sender) (sent : List (List ℕ)) → HasOffered sender sent → after ≡ sender_given_back (one_given sender) → HasOffered after sent
 offered_same back sender after sent offered is =
     subst (λ (after : Sender). HasOffered after sent) (sym (is ∙ back sender))
     (record { given = offered.given; bytes = offered.bytes; items = offered.items; reached = offered.reached; starts = offered.starts; within = offered.within; few = offered.few })
 
 -- A sender that gave one frame more goes on with its stream.
-pub goes_on_more : (sender after : Sender) → after ≡ one_given sender → GoesOn sender after
-goes_on_more sender after is = subst (λ (after : Sender). GoesOn sender after) (sym is) (record { items = refl; acked = refl; start = refl; ever = omega arith })
+pub goes_on_more : (sender after : Sender) → after ≡ one_given sender → StreamGoesOn sender after
+goes_on_more sender after is = subst (λ (after : Sender). StreamGoesOn sender after) (sym is) (record { items = refl; acked = refl; start = refl; ever = omega arith })
 
 -- A sender that gave one frame and got it back goes on with its stream.
-pub goes_on_same : BackIsUngiven → (sender after : Sender) → after ≡ given_back (one_given sender) → GoesOn sender after
-goes_on_same back sender after is = subst (λ (after : Sender). GoesOn sender after) (sym (is ∙ back sender)) (record { items = refl; acked = refl; start = refl; ever = omega arith })
+pub goes_on_same : BackIsUngiven → (sender after : Sender) → after ≡ sender_given_back (one_given sender) → StreamGoesOn sender after
+goes_on_same back sender after is = subst (λ (after : Sender). StreamGoesOn sender after) (sym (is ∙ back sender)) (record { items = refl; acked = refl; start = refl; ever = omega arith })
 
 -- A sender that stands where it stood goes on with its stream.
-pub goes_on_here : (sender after : Sender) → after ≡ sender → GoesOn sender after
-goes_on_here sender after is = subst (λ (after : Sender). GoesOn sender after) (sym is) (record { items = refl; acked = refl; start = refl; ever = omega arith })
+pub goes_on_here : (sender after : Sender) → after ≡ sender → StreamGoesOn sender after
+goes_on_here sender after is = subst (λ (after : Sender). StreamGoesOn sender after) (sym is) (record { items = refl; acked = refl; start = refl; ever = omega arith })
 
 -- A sender that goes on to a second state, and from there to a third, goes on from the first to the third.
-pub goes_on : {one two three : Sender} → GoesOn one two → GoesOn two three → GoesOn one three
+pub goes_on : {one two three : Sender} → StreamGoesOn one two → StreamGoesOn two three → StreamGoesOn one three
 goes_on first second = record {
   items = second.items ∙ first.items;
   acked = second.acked ∙ first.acked;
@@ -116,7 +116,7 @@ bytes_of_session items start bytes =
     All-cons (λ (frame : List ℕ). frame ≢ []) (number_frame start) (drop start items) (number_has_byte start) (All-drop (λ (frame : List ℕ). frame ≢ []) start items bytes)
 
 -- At the start of a session, with nothing sent, a sender has offered just what was sent.
-pub offers_nothing : (sender : Sender) (receiver : Receiver) (sent : List (List ℕ)) → CanBegin sender receiver → sent ≡ [] → HasOffered sender sent
+pub offers_nothing : (sender : Sender) (receiver : Receiver) (sent : List (List ℕ)) → CanStreamBegin sender receiver → sent ≡ [] → HasOffered sender sent
 offers_nothing sender receiver sent can none =
     let start = can.start in
     let within = can.within in

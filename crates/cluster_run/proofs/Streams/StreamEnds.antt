@@ -16,19 +16,19 @@ use Rattle.stream_laws.specs.Laws.{CanSend, FrontIsKept, KeepsFront, LargestCoun
 use Rattle.stream_model.specs.Fronts.{Begins}
 use Rattle.stream_model.specs.Numbers.{SaysAtMost, largest_in, number_in}
 use Rattle.stream_model.specs.Receiver.{Receiver, new_receiver, receiver_renewed, taken}
-use Rattle.stream_model.specs.Resumed.{AreSessionsOf, Exchange, IsInOrder, acked_by, after_session, kept_by}
-use Rattle.stream_model.specs.Sender.{Sender, ack_answer, ack_taken, after_ack, sender_renewed, session_frames}
+use Rattle.stream_model.specs.Resumed.{AreSessionsOf, Exchange, IsStreamInOrder, acked_by, after_session, kept_by}
+use Rattle.stream_model.specs.Sender.{Sender, ack_answer, ack_taken, sender_after_ack, sender_renewed, session_frames}
 use Rattle.stream_model.specs.declared.AckAnswer.{AckAnswer}
 use Rattle.stream_model.specs.declared.AckAnswer.TheVariants.{Newer, Old, Bad}
 use Rattle.stream_model.specs.declared.Session.TheVariants.{Fresh}
 use Rattle.step_kinds.specs.declared.names.LaneName.{LaneName}
 use Rattle.table_lane.specs.EndOfLane.{Shown}
 use Rattle.cluster_run.specs.LaneKeys.{LaneKey}
-use Rattle.cluster_run.specs.stream.Keys.{ComesTo}
-use Rattle.cluster_run.specs.stream.LaneFields.{GoesFrom, IsWork, cut_proofs, state_of}
-use Rattle.cluster_run.specs.stream.Sessions.{CanBegin, EndsWith, new_session}
+use Rattle.cluster_run.specs.stream.Keys.{StreamComesTo}
+use Rattle.cluster_run.specs.stream.LaneFields.{GoesFrom, IsStreamWork, stream_cut_proofs, stream_state_of}
+use Rattle.cluster_run.specs.stream.Sessions.{CanStreamBegin, StreamEndsWith, new_stream_session}
 use Rattle.cluster_run.specs.stream.Streams.{exchange_proofs, stream_proofs}
-use Rattle.cluster_run.specs.stream.Workers.{SessionKey, SessionState}
+use Rattle.cluster_run.specs.stream.Workers.{SessionKey, StreamSessionState}
 use Rattle.cluster_run.specs.declared.stream.lanes.StreamWork.TheInside.{Inside}
 use Rattle.cluster_run.specs.declared.stream.session.SessionEnd.{SessionEnd}
 
@@ -65,7 +65,7 @@ record KeepsItems (before after : Sender) : Type 0 where
   pub items : after.items ≡ before.items
   pub ever : after.place.ever ≡ before.place.ever
 
-after_ack_keeps : (sender : Sender) (number : ℕ) (answer : AckAnswer) → KeepsItems sender (after_ack sender number answer)
+after_ack_keeps : (sender : Sender) (number : ℕ) (answer : AckAnswer) → KeepsItems sender (sender_after_ack sender number answer)
 after_ack_keeps sender number Newer = record { items = refl; ever = refl }
 after_ack_keeps sender number Old = record { items = refl; ever = refl }
 after_ack_keeps sender number Bad = record { items = refl; ever = refl }
@@ -84,9 +84,9 @@ acked_by-push (x ∷ sessions) session = let rest = acked_by-push sessions sessi
 -- The sessions so far
 
 -- what is true once a session ended
-pub record HasGone (sessions : List Exchange) (session : SessionState) (end : SessionEnd) (exchange : Exchange) : Type 0 where
+pub record HasGone (sessions : List Exchange) (session : StreamSessionState) (end : SessionEnd) (exchange : Exchange) : Type 0 where
   pub are : AreSessionsOf session.key.items (sessions ++ exchange ∷ [])
-  pub in_order : All IsInOrder (sessions ++ exchange ∷ [])
+  pub in_order : All IsStreamInOrder (sessions ++ exchange ∷ [])
   pub kept : fold after_session new_receiver (sessions ++ exchange ∷ []) ≡ receiver_renewed end.receiver
   pub front : KeepsFront session.key.items (sessions ++ exchange ∷ [])
   pub few : length end.receiver.items ≤ session.ever
@@ -103,7 +103,7 @@ kept_few front items before got after start ever can prefix starts kept begins r
     omega arith
 
 -- A session that ended is one more of its stream's, in order: the kept items are a front, no more than ever given.
-pub has_gone : StreamLaws → (sessions : List Exchange) (session : SessionState) (end : SessionEnd) → GoesFrom sessions session.key session.ever → (ends : EndsWith session end) → HasGone sessions session end ends.exchange
+pub has_gone : StreamLaws → (sessions : List Exchange) (session : StreamSessionState) (end : SessionEnd) → GoesFrom sessions session.key session.ever → (ends : StreamEndsWith session end) → HasGone sessions session end ends.exchange
 has_gone laws sessions session end goes ends =
     let items = session.key.items in
     let x = ends.exchange in
@@ -124,7 +124,7 @@ has_gone laws sessions session end goes ends =
     let acks : All (SaysAtMost (length (kept_by more))) x.acks_sent =
     subst (λ (n : ℕ). All (SaysAtMost n) x.acks_sent) (ap (λ (r : Receiver). length r.items) (sym kept)) ends.acks in
     let are = laws.grow items sessions x goes.are (subst (λ (start : ℕ). Begins x.sent (session_frames items start)) goes.acked ends.sent) acks in
-    let order = All-push IsInOrder sessions x goes.in_order ends.in_order in
+    let order = All-push IsStreamInOrder sessions x goes.in_order ends.in_order in
     record { are = are; in_order = order; kept = kept; front = laws.keep items more can are order; few = few }
 
 -- The next session
@@ -135,7 +135,7 @@ acks_within n m sent got fits begins all =
     All-weaker (SaysAtMost n) (SaysAtMost m) (λ frame says. (says.0, (let a = says.1 in omega arith), says.2)) got (begins-all (SaysAtMost n) got sent begins all)
 
 -- the number at which the next session starts
-acked_now : StreamLaws → (sessions : List Exchange) (session : SessionState) (end : SessionEnd) → GoesFrom sessions session.key session.ever → (ends : EndsWith session end) → HasGone sessions session end ends.exchange
+acked_now : StreamLaws → (sessions : List Exchange) (session : StreamSessionState) (end : SessionEnd) → GoesFrom sessions session.key session.ever → (ends : StreamEndsWith session end) → HasGone sessions session end ends.exchange
     → (fold ack_taken end.sender end.acks.frames).acked ≡ acked_by (sessions ++ ends.exchange ∷ [])
 acked_now laws sessions session end goes ends gone =
     let x = ends.exchange in
@@ -152,9 +152,9 @@ acked_now laws sessions session end goes ends gone =
 abbrev next_key : ℕ → Sender → Receiver → SessionKey
 next_key entries sender receiver = record { entries = entries; items = sender.items; start = sender.start; before = receiver.items }
 
-renewed_goes : StreamLaws → (sessions : List Exchange) (session : SessionState) (end : SessionEnd) (entries : ℕ) → GoesFrom sessions session.key session.ever → (ends : EndsWith session end) → HasGone sessions session end ends.exchange
+renewed_goes : StreamLaws → (sessions : List Exchange) (session : StreamSessionState) (end : SessionEnd) (entries : ℕ) → GoesFrom sessions session.key session.ever → (ends : StreamEndsWith session end) → HasGone sessions session end ends.exchange
     → (sender : Sender) → sender ≡ sender_renewed (fold ack_taken end.sender end.acks.frames)
-    → GoesFrom (sessions ++ ends.exchange ∷ []) (next_key entries sender (receiver_renewed end.receiver)) sender.place.ever × CanBegin sender (receiver_renewed end.receiver) × (sender.items ≡ session.key.items)
+    → GoesFrom (sessions ++ ends.exchange ∷ []) (next_key entries sender (receiver_renewed end.receiver)) sender.place.ever × CanStreamBegin sender (receiver_renewed end.receiver) × (sender.items ≡ session.key.items)
 renewed_goes laws sessions session end entries goes ends gone sender is =
     let x = ends.exchange in
     let acked = acked_now laws sessions session end goes ends gone in
@@ -192,17 +192,17 @@ renewed_goes laws sessions session end entries goes ends gone sender is =
 -- The last session
 
 -- the proofs, with one session more
-stream_proofs-push : (N : ℕ) (xs : List Exchange) (x : Exchange) → stream_proofs N (xs ++ x ∷ []) ≡ cut_proofs N xs ++ exchange_proofs N false x
+stream_proofs-push : (N : ℕ) (xs : List Exchange) (x : Exchange) → stream_proofs N (xs ++ x ∷ []) ≡ stream_cut_proofs N xs ++ exchange_proofs N false x
 stream_proofs-push N [] x = refl
 stream_proofs-push N (y ∷ []) x = refl
-stream_proofs-push N (y ∷ z ∷ zs) x = ap (λ (rest : List Shown). exchange_proofs N true y ++ rest) (stream_proofs-push N (z ∷ zs) x) ∙ sym (append_assoc (exchange_proofs N true y) (cut_proofs N (z ∷ zs)) (exchange_proofs N false x))
+stream_proofs-push N (y ∷ z ∷ zs) x = ap (λ (rest : List Shown). exchange_proofs N true y ++ rest) (stream_proofs-push N (z ∷ zs) x) ∙ sym (append_assoc (exchange_proofs N true y) (stream_cut_proofs N (z ∷ zs)) (exchange_proofs N false x))
 
 -- The proofs of cut sessions with one session more are those before it and then the two of that one, cut too.
-pub cut_proofs-push : (N : ℕ) (xs : List Exchange) (x : Exchange) → cut_proofs N (xs ++ x ∷ []) ≡ cut_proofs N xs ++ exchange_proofs N true x
-cut_proofs-push N xs x = flat_map-append (exchange_proofs N true) xs (x ∷ []) ∙ ap (λ (rest : List Shown). cut_proofs N xs ++ rest) (append-nil (exchange_proofs N true x))
+pub cut_proofs-push : (N : ℕ) (xs : List Exchange) (x : Exchange) → stream_cut_proofs N (xs ++ x ∷ []) ≡ stream_cut_proofs N xs ++ exchange_proofs N true x
+cut_proofs-push N xs x = flat_map-append (exchange_proofs N true) xs (x ∷ []) ∙ ap (λ (rest : List Shown). stream_cut_proofs N xs ++ rest) (append-nil (exchange_proofs N true x))
 
 -- two proofs more
-pub two_more : (entries : ℕ) (cut : Bool) (session : SessionState) (end : SessionEnd) (ends : EndsWith session end) (before first all : List Shown) → first ≡ before ++ end.item_proof ∷ [] → all ≡ first ++ end.ack_proof ∷ []
+pub two_more : (entries : ℕ) (cut : Bool) (session : StreamSessionState) (end : SessionEnd) (ends : StreamEndsWith session end) (before first all : List Shown) → first ≡ before ++ end.item_proof ∷ [] → all ≡ first ++ end.ack_proof ∷ []
     → entries ≡ session.key.entries → session.cut ≡ cut → all ≡ before ++ exchange_proofs entries cut ends.exchange
 two_more entries cut session end ends before first all first_is all_is ring cut_is =
     let x = ends.exchange in
@@ -227,9 +227,9 @@ is_over ahead kept all cut h =
       not_cut false _ = refl
 
 -- the record and the proofs of a stream that is over
-pub comes_to : StreamLaws → (w : Inside) (end : SessionEnd) (items : Frames) (first proofs : List Shown) (holds : IsWork w) → (state_of w).over ≡ true → (ends : EndsWith w.session end)
+pub comes_to : StreamLaws → (w : Inside) (end : SessionEnd) (items : Frames) (first proofs : List Shown) (holds : IsStreamWork w) → (stream_state_of w).over ≡ true → (ends : StreamEndsWith w.session end)
     → items.frames ≡ end.receiver.items → first ≡ w.proofs.items ++ end.item_proof ∷ [] → proofs ≡ first ++ end.ack_proof ∷ []
-    → ComesTo (state_of w).key (record { name = w.name; items = items.frames; sessions = w.losses + 1 }) proofs
+    → StreamComesTo (stream_state_of w).key (record { name = w.name; items = items.frames; sessions = w.losses + 1 }) proofs
 comes_to laws w end items first proofs holds over ends items_are first_is proofs_are =
     let tests = is_over w.ahead w.session.kept (length w.session.key.items) w.session.cut over in
     let x = ends.exchange in
@@ -258,7 +258,7 @@ comes_to laws w end items first proofs holds over ends items_are first_is proofs
 pub new_goes : (key : SessionKey) (given : ℕ) → key.start ≡ 0 → key.before ≡ [] → GoesFrom [] key given
 new_goes key given start before = record {
   are = record { sent = λ k below. absurd (omega (arith, below)); acks = λ k below. absurd (omega (arith, below)) };
-  in_order = All-nil IsInOrder;
+  in_order = All-nil IsStreamInOrder;
   kept = ap (λ (items : List (List ℕ)). record { items = items; session = Fresh }) (sym before);
   acked = start;
   ever = let none = ap length before in omega arith;
@@ -275,7 +275,7 @@ key_is {name = name} {name' = name'} {number = number} {number' = number'} {entr
     ∙ (ap (λ (n : ℕ). key_with name' number' n losses traffic) b ∙ (ap (λ (n : ℕ). key_with name' number' entries' n traffic) c ∙ ap (λ (t : List (List ℕ)). key_with name' number' entries' losses' t) d)))
 
 -- after a round
-pub work_on : (w : Inside) (session : SessionState) → IsWork w → session.first ≡ w.session.first → session.key ≡ w.session.key → w.session.ever ≤ session.ever → IsWork (record w { session = session })
+pub work_on : (w : Inside) (session : StreamSessionState) → IsStreamWork w → session.first ≡ w.session.first → session.key ≡ w.session.key → w.session.ever ≤ session.ever → IsStreamWork (record w { session = session })
 work_on w session holds first key ever = record {
   sessions = holds.sessions;
   numbers = holds.numbers;
@@ -294,20 +294,20 @@ work_on w session holds first key ever = record {
 }
 
 -- after a session that was cut
-pub next_can_begin : StreamLaws → (w : Inside) (end : SessionEnd) (sender : Sender) (receiver : Receiver) → IsWork w → EndsWith w.session end → sender ≡ sender_renewed (fold ack_taken end.sender end.acks.frames) → receiver ≡ receiver_renewed end.receiver
-    → CanBegin sender receiver
+pub next_can_begin : StreamLaws → (w : Inside) (end : SessionEnd) (sender : Sender) (receiver : Receiver) → IsStreamWork w → StreamEndsWith w.session end → sender ≡ sender_renewed (fold ack_taken end.sender end.acks.frames) → receiver ≡ receiver_renewed end.receiver
+    → CanStreamBegin sender receiver
 next_can_begin laws w end sender receiver holds ends sender_is receiver_is =
     let gone = has_gone laws holds.sessions w.session end holds.goes ends in
-    subst (λ (r : Receiver). CanBegin sender r) (sym receiver_is) (renewed_goes laws holds.sessions w.session end w.entries holds.goes ends gone sender sender_is).1
+    subst (λ (r : Receiver). CanStreamBegin sender r) (sym receiver_is) (renewed_goes laws holds.sessions w.session end w.entries holds.goes ends gone sender sender_is).1
 
 -- The sender of the next session has the same items as the session that ended.
-pub next_items : (w : Inside) (end : SessionEnd) (sender : Sender) → EndsWith w.session end → sender ≡ sender_renewed (fold ack_taken end.sender end.acks.frames) → sender.items ≡ w.session.key.items
+pub next_items : (w : Inside) (end : SessionEnd) (sender : Sender) → StreamEndsWith w.session end → sender ≡ sender_renewed (fold ack_taken end.sender end.acks.frames) → sender.items ≡ w.session.key.items
 next_items w end sender ends sender_is = ap (λ (s : Sender). s.items) sender_is ∙ ((acks_keep end.sender end.acks.frames).items ∙ ends.items)
 
 -- After a cut session, with its two proofs added, the stream's work is sound with the next session begun.
-pub next_work : StreamLaws → (w : Inside) (end : SessionEnd) (sender : Sender) (receiver : Receiver) (session : SessionState) (first : List Shown) (proofs : Vec Shown Global) (ahead : ℕ) (holds : IsWork w) → ahead + 1 ≡ w.ahead → w.session.cut ≡ true → EndsWith w.session end
-    → sender ≡ sender_renewed (fold ack_taken end.sender end.acks.frames) → receiver ≡ receiver_renewed end.receiver → session ≡ new_session w.numbers w.entries sender receiver
-    → first ≡ w.proofs.items ++ end.item_proof ∷ [] → proofs.items ≡ first ++ end.ack_proof ∷ [] → IsWork (record w { ahead = ahead; session = session; proofs = proofs })
+pub next_work : StreamLaws → (w : Inside) (end : SessionEnd) (sender : Sender) (receiver : Receiver) (session : StreamSessionState) (first : List Shown) (proofs : Vec Shown Global) (ahead : ℕ) (holds : IsStreamWork w) → ahead + 1 ≡ w.ahead → w.session.cut ≡ true → StreamEndsWith w.session end
+    → sender ≡ sender_renewed (fold ack_taken end.sender end.acks.frames) → receiver ≡ receiver_renewed end.receiver → session ≡ new_stream_session w.numbers w.entries sender receiver
+    → first ≡ w.proofs.items ++ end.item_proof ∷ [] → proofs.items ≡ first ++ end.ack_proof ∷ [] → IsStreamWork (record w { ahead = ahead; session = session; proofs = proofs })
 next_work laws w end sender receiver session first proofs ahead holds less cut ends sender_is receiver_is session_is first_is proofs_are =
     let x = ends.exchange in
     let gone = has_gone laws holds.sessions w.session end holds.goes ends in
@@ -319,11 +319,11 @@ next_work laws w end sender receiver session first proofs ahead holds less cut e
     record {
       sessions = holds.sessions ++ x ∷ [];
       numbers = holds.numbers;
-      numbered = ap (λ (s : SessionState). s.first) session_is;
-      ring = (ap (λ (s : SessionState). s.key.entries) (sym session_is), holds.ring.1, holds.ring.2);
+      numbered = ap (λ (s : StreamSessionState). s.first) session_is;
+      ring = (ap (λ (s : StreamSessionState). s.key.entries) (sym session_is), holds.ring.1, holds.ring.2);
       losses = omega arith;
       few = holds.few;
       shown = two_more w.entries true w.session end ends w.proofs.items first proofs.items first_is proofs_are holds.ring.0 cut
           ∙ (ap (λ (before : List Shown). before ++ exchange_proofs w.entries true x) holds.shown ∙ sym (cut_proofs-push w.entries holds.sessions x));
-      goes = subst (λ (s : SessionState). GoesFrom (holds.sessions ++ x ∷ []) s.key s.ever) (sym session_is) goes';
+      goes = subst (λ (s : StreamSessionState). GoesFrom (holds.sessions ++ x ∷ []) s.key s.ever) (sym session_is) goes';
     }

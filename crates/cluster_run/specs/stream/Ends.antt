@@ -17,7 +17,7 @@ pub record HasOffered (sender : Sender) (sent : List (List ℕ)) : Type 0 where
   pub few : length sender.items ≤ most_traffic_frames
 
 -- a sender goes on with its stream in its session, and has ever given no fewer items
-pub record GoesOn (before after : Sender) : Type 0 where
+pub record StreamGoesOn (before after : Sender) : Type 0 where
   pub items : after.items ≡ before.items
   pub acked : after.acked ≡ before.acked
   pub start : after.start ≡ before.start

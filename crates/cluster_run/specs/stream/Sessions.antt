@@ -6,15 +6,15 @@ use Rattle.lane_workers.specs.Passes.{HaveBytes}
 use Rattle.stream_model.specs.Fronts.{Begins}
 use Rattle.stream_model.specs.Numbers.{SaysAtMost}
 use Rattle.stream_model.specs.Receiver.{Receiver, taken}
-use Rattle.stream_model.specs.Resumed.{Exchange, IsInOrder}
+use Rattle.stream_model.specs.Resumed.{Exchange, IsStreamInOrder}
 use Rattle.stream_model.specs.Sender.{Sender, session_frames}
 use Rattle.stream_model.specs.declared.Session.TheVariants.{Fresh}
-use Rattle.cluster_run.specs.stream.Workers.{SessionState, first_workers}
+use Rattle.cluster_run.specs.stream.Workers.{StreamSessionState, first_workers}
 use Rattle.cluster_run.specs.declared.stream.numbers.LaneNumbers.{LaneNumbers}
 use Rattle.cluster_run.specs.declared.stream.session.SessionEnd.{SessionEnd}
 
 -- both ends stand at the start of a session: nothing was given in it, and it starts at what was acknowledged
-pub record CanBegin (sender : Sender) (receiver : Receiver) : Type 0 where
+pub record CanStreamBegin (sender : Sender) (receiver : Receiver) : Type 0 where
   pub given : sender.place.given ≡ 0
   pub acked : sender.acked ≡ sender.start
   pub start : sender.start ≤ sender.place.ever
@@ -25,8 +25,8 @@ pub record CanBegin (sender : Sender) (receiver : Receiver) : Type 0 where
   pub kept : length receiver.items < 2 ^ 32
 
 -- a session that begins, by the numbers of its lanes: the link isn't cut
-abbrev pub new_session : LaneNumbers → ℕ → Sender → Receiver → SessionState
-new_session numbers entries sender receiver = record {
+abbrev pub new_stream_session : LaneNumbers → ℕ → Sender → Receiver → StreamSessionState
+new_stream_session numbers entries sender receiver = record {
   first = first_workers numbers;
   key = record { entries = entries; items = sender.items; start = sender.start; before = receiver.items };
   ever = sender.place.ever;
@@ -35,12 +35,12 @@ new_session numbers entries sender receiver = record {
 }
 
 -- A session ends: this is what its lanes were given, and what came out of them.
-pub record EndsWith (session : SessionState) (end : SessionEnd) : Type 0 where
+pub record StreamEndsWith (session : StreamSessionState) (end : SessionEnd) : Type 0 where
   pub exchange : Exchange
   -- the proofs show it
   pub items_shown : end.item_proof ≡ record { sent = exchange.sent; got = exchange.got; entries = session.key.entries; cut = session.cut }
   pub acks_shown : end.ack_proof ≡ record { sent = exchange.acks_sent; got = exchange.acks_got; entries = session.key.entries; cut = session.cut }
-  pub in_order : IsInOrder exchange
+  pub in_order : IsStreamInOrder exchange
   -- the frames of the session were sent, from the first on
   pub sent : Begins exchange.sent (session_frames session.key.items session.key.start)
   -- the receiver took what came of them, and acknowledged no more than it keeps

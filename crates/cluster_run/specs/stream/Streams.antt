@@ -3,7 +3,7 @@ use Rattle.std.specs.Prelude.{◌≡◌, ℕ, ◌+◌, Bool, true, false, List, 
 use Rattle.std.specs.List.{All}
 use Rattle.step_kinds.specs.declared.names.LaneName.{LaneName}
 use Rattle.step_kinds.specs.declared.plan.Plan.{Plan}
-use Rattle.stream_model.specs.Resumed.{Exchange, IsInOrder, IsResumed}
+use Rattle.stream_model.specs.Resumed.{Exchange, IsStreamInOrder, IsResumed}
 use Rattle.table_lane.specs.EndOfLane.{Shown}
 use Rattle.traffic_plan.specs.Lanes.{frames_on}
 use Rattle.cluster_run.specs.Lanes.{traffic_lanes, entries_on, losses_on}
@@ -45,7 +45,7 @@ pub record IsStream (plan : Plan) (lane : StreamShown) (proofs : List Shown) : T
   pub counted : length sessions ≡ lane.sessions
   pub losses : lane.sessions ≡ 1 + losses_on plan lane.name
   pub shown : proofs ≡ stream_proofs (entries_on plan lane.name) sessions
-  pub in_order : All IsInOrder sessions
+  pub in_order : All IsStreamInOrder sessions
   pub resumed : IsResumed (frames_on lane.name plan.traffic) sessions lane.items
 
 -- the proofs are those of the lanes' streams, lane by lane

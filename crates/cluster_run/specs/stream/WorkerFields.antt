@@ -6,7 +6,7 @@ use Rattle.stream_model.specs.Receiver.{taken}
 use Rattle.stream_model.specs.declared.Session.TheVariants.{Fresh}
 use Rattle.cluster_run.specs.Workers.{WorkerKey}
 use Rattle.cluster_run.specs.stream.Ends.{HasOffered}
-use Rattle.cluster_run.specs.stream.Workers.{SourceShown, SinkShown, MovingShown, CuttingShown, PairKey}
+use Rattle.cluster_run.specs.stream.Workers.{SourceShown, SinkShown, StreamMovingShown, StreamCuttingShown, PairKey}
 use Rattle.cluster_run.specs.declared.stream.source.Source.TheInside as source
 use Rattle.cluster_run.specs.declared.stream.sink.Sink.TheInside as sink
 use Rattle.cluster_run.specs.declared.stream.pair.PairMoving.TheInside as moving
@@ -55,12 +55,12 @@ pub record IsSink (w : sink.Inside) : Type 0 where
 abbrev pub key_of_both : WorkerKey → WorkerKey → PairKey
 key_of_both items acks = record { workers = record { items = items.worker; acks = acks.worker }; lane = items.lane; ack_lane = acks.lane }
 
-abbrev pub moving_of : moving.Inside → MovingShown
-moving_of w = record { key = key_of_both w.items.key w.acks.key; tries = w.items.tries; loads = w.items.loads }
+abbrev pub stream_moving_of : moving.Inside → StreamMovingShown
+stream_moving_of w = record { key = key_of_both w.items.key w.acks.key; tries = w.items.tries; loads = w.items.loads }
 
-abbrev pub cutting_of : cutting.Inside → CuttingShown
-cutting_of w = record { key = key_of_both w.items.key w.acks.key; cut = w.items.cut }
+abbrev pub stream_cutting_of : cutting.Inside → StreamCuttingShown
+stream_cutting_of w = record { key = key_of_both w.items.key w.acks.key; cut = w.items.cut }
 
 -- both lanes are cut, or none
-abbrev pub IsCutting : cutting.Inside → Type 0
-IsCutting w = w.acks.cut ≡ w.items.cut
+abbrev pub IsStreamCutting : cutting.Inside → Type 0
+IsStreamCutting w = w.acks.cut ≡ w.items.cut

@@ -67,13 +67,13 @@ pub record PairKey : Type 0 where
 
 -- the moving workers of both lanes, and on the lane of items the tries to move and the loads of index out on the way
 -- back
-pub record MovingShown : Type 0 where
+pub record StreamMovingShown : Type 0 where
   pub key : PairKey
   pub tries : ℕ
   pub loads : ℕ
 
 -- the cutting workers of both lanes, and whether the link was cut
-pub record CuttingShown : Type 0 where
+pub record StreamCuttingShown : Type 0 where
   pub key : PairKey
   pub cut : Bool
 
@@ -87,7 +87,7 @@ pub record SessionKey : Type 0 where
 
 -- a session of a stream, the first workers of its lanes, how many items were ever given, how many are kept, and whether
 -- its link was cut
-pub record SessionState : Type 0 where
+pub record StreamSessionState : Type 0 where
   pub first : PairWorkers
   pub key : SessionKey
   pub ever : ℕ

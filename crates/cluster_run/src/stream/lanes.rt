@@ -3,7 +3,7 @@
 ghost use Rattle.std.specs.Prelude.{◌≡◌, ◌≤◌, true, IfOk};
 ghost use Rattle.io_edges.specs.Gates.{LetsWorkers};
 ghost use Rattle.cluster_run.specs.Lanes.{most_lanes};
-ghost use Rattle.cluster_run.specs.stream.Keys.{ComesTo, stream_numbers};
+ghost use Rattle.cluster_run.specs.stream.Keys.{StreamComesTo, stream_numbers};
 ghost use Rattle.cluster_run.specs.stream.Streams.{stream_shown};
 ghost use Rattle.cluster_run.specs.stream.Workers.{most_stream_workers};
 
@@ -99,7 +99,7 @@ impl StreamWork {
     /// Ends a stream that is over: its record, and the proofs of its sessions. The only error is running out of memory.
     pub(crate) fn ended(self) -> Result<(StreamRun, Vec<LaneProof>), AllocError>
         requires { self.over ≡ true }
-        ensures { IfOk result (λ end. ComesTo self.key (stream_shown end.0) end.1.items) }
+        ensures { IfOk result (λ end. StreamComesTo self.key (stream_shown end.0) end.1.items) }
     {
         let StreamWork {
             name,
@@ -192,9 +192,9 @@ impl Model for StreamWork {
 
     ghost Value = { LaneState };
 
-    ghost use Rattle.cluster_run.specs.stream.LaneFields.{state_of, IsWork};
+    ghost use Rattle.cluster_run.specs.stream.LaneFields.{stream_state_of, IsStreamWork};
 
-    ghost view = { state_of };
+    ghost view = { stream_state_of };
 
-    ghost invariant = { IsWork };
+    ghost invariant = { IsStreamWork };
 }

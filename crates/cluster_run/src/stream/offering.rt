@@ -2,7 +2,7 @@
 
 ghost use Rattle.std.specs.Prelude.{◌≡◌, ◌+◌, ◌-◌, ◌≤◌, ◌<◌, ◌^◌};
 ghost use Rattle.lane_workers.specs.Passes.{LetsTurns};
-ghost use Rattle.cluster_run.specs.stream.Ends.{GoesOn, HasOffered};
+ghost use Rattle.cluster_run.specs.stream.Ends.{StreamGoesOn, HasOffered};
 
 use lane_workers::{IDLE_TURNS, TurnGate};
 use resume_stream::StreamSender;
@@ -37,7 +37,7 @@ pub(crate) struct Pass {
 fn offer(sender: &mut StreamSender, end: &mut SendEnd) -> Result<Turn, AllocError>
     requires { HasOffered sender.old end.old.part.sent }
     ensures offered { HasOffered sender.new end.new.part.sent }
-    ensures stream { GoesOn sender.old sender.new }
+    ensures stream { StreamGoesOn sender.old sender.new }
     ensures lane { end.new.lane ≡ end.old.lane }
     ensures entries { end.new.part.entries ≡ end.old.part.entries }
 {
@@ -83,7 +83,7 @@ pub(crate) fn offer_pass<G: TurnGate>(
     requires fits { first + turns < 2 ^ 64 }
     requires gate { LetsTurns (G.lets gate.now) worker first turns }
     ensures offered { HasOffered sender.new end.new.part.sent }
-    ensures stream { GoesOn sender.old sender.new }
+    ensures stream { StreamGoesOn sender.old sender.new }
     ensures lane { end.new.lane ≡ end.old.lane }
     ensures entries { end.new.part.entries ≡ end.old.part.entries }
 {

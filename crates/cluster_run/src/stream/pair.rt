@@ -66,13 +66,13 @@ impl Worker for PairMoving {
 }
 
 impl Model for PairMoving {
-    ghost use Rattle.cluster_run.specs.stream.Workers.{MovingShown};
+    ghost use Rattle.cluster_run.specs.stream.Workers.{StreamMovingShown};
 
-    ghost Value = { MovingShown };
+    ghost Value = { StreamMovingShown };
 
-    ghost use Rattle.cluster_run.specs.stream.WorkerFields.{moving_of};
+    ghost use Rattle.cluster_run.specs.stream.WorkerFields.{stream_moving_of};
 
-    ghost view = { moving_of };
+    ghost view = { stream_moving_of };
 }
 
 /// The two workers that cut the link: of both lanes.
@@ -129,13 +129,13 @@ impl Worker for PairCutting {
 }
 
 impl Model for PairCutting {
-    ghost use Rattle.cluster_run.specs.stream.Workers.{CuttingShown};
+    ghost use Rattle.cluster_run.specs.stream.Workers.{StreamCuttingShown};
 
-    ghost Value = { CuttingShown };
+    ghost Value = { StreamCuttingShown };
 
-    ghost use Rattle.cluster_run.specs.stream.WorkerFields.{cutting_of, IsCutting};
+    ghost use Rattle.cluster_run.specs.stream.WorkerFields.{stream_cutting_of, IsStreamCutting};
 
-    ghost view = { cutting_of };
+    ghost view = { stream_cutting_of };
 
-    ghost invariant = { IsCutting };
+    ghost invariant = { IsStreamCutting };
 }

@@ -5,7 +5,7 @@ ghost use Rattle.step_kinds.specs.Limits.{most_traffic_entries};
 ghost use Rattle.lane_workers.specs.Passes.{HaveBytes};
 ghost use Rattle.table_lane.specs.NewEnds.{AreNew};
 ghost use Rattle.cluster_run.specs.stream.LaneFields.{HaveNumbers};
-ghost use Rattle.cluster_run.specs.stream.Sessions.{CanBegin, EndsWith, new_session};
+ghost use Rattle.cluster_run.specs.stream.Sessions.{CanStreamBegin, StreamEndsWith, new_stream_session};
 ghost use Rattle.cluster_run.specs.stream.Workers.{LetsBoth, LetsSession};
 
 use crate::stream::numbers::LaneNumbers;
@@ -76,9 +76,9 @@ impl Session {
     ) -> Result<Session, AllocError>
         requires numbers { HaveNumbers numbers }
         requires ring { (2 ≤ entries) × (entries ≤ most_traffic_entries) }
-        requires ends { CanBegin sender receiver }
+        requires ends { CanStreamBegin sender receiver }
         requires total { total ≡ length sender.items }
-        ensures { IfOk result (λ s. s ≡ new_session numbers entries sender receiver) }
+        ensures { IfOk result (λ s. s ≡ new_stream_session numbers entries sender receiver) }
     {
         let (got, items, acks) = new_lanes(alloc, entries)?;
         let (item_send, item_mover, item_recv, item_back, item_cut) = items;
@@ -187,7 +187,7 @@ impl Session {
 
     /// Ends the session. The only error is running out of memory, which a worker may have met before.
     pub(crate) fn ended(self) -> Result<SessionEnd, AllocError>
-        ensures { IfOk result (λ end. EndsWith self end) }
+        ensures { IfOk result (λ end. StreamEndsWith self end) }
     {
         if self.source.is_wanting {
             // One call drops all its fields: dropped at the return, each would be a step of this function's proof.
@@ -199,7 +199,7 @@ impl Session {
 
     // What the session leaves. The only error is running out of memory, which its sink may have met before.
     fn into_end(self) -> Result<SessionEnd, AllocError>
-        ensures { IfOk result (λ end. EndsWith self end) }
+        ensures { IfOk result (λ end. StreamEndsWith self end) }
     {
         let Session {
             source,
@@ -242,13 +242,13 @@ impl Session {
 }
 
 impl Model for Session {
-    ghost use Rattle.cluster_run.specs.stream.Workers.{SessionState};
+    ghost use Rattle.cluster_run.specs.stream.Workers.{StreamSessionState};
 
-    ghost Value = { SessionState };
+    ghost Value = { StreamSessionState };
 
-    ghost use Rattle.cluster_run.specs.stream.SessionFields.{session_of, IsSession};
+    ghost use Rattle.cluster_run.specs.stream.SessionFields.{stream_session_of, IsStreamSession};
 
-    ghost view = { session_of };
+    ghost view = { stream_session_of };
 
-    ghost invariant = { IsSession };
+    ghost invariant = { IsStreamSession };
 }

@@ -9,7 +9,7 @@ use Rattle.step_kinds.specs.declared.plan.Plan.{Plan}
 use Rattle.step_kinds.specs.declared.steps.Label.{Label}
 use Rattle.lane_model.specs.Lane.{blank_slot, with_flags}
 use Rattle.lane_model.specs.declared.Write.{Write}
-use Rattle.ledger_model.specs.Labels.{write_of, index_of}
+use Rattle.ledger_model.specs.Labels.{write_of, label_index_of}
 use Rattle.ledger_model.specs.Ledger.{LanePart}
 use Rattle.ledger_model.specs.Log.{Answered, Numbered, takes_room, gives_room, trains, breaks, accepts, delivers, saw_empty, pad_after}
 use Rattle.ledger_model.specs.Rings.{RingPart, ring_next, with_write, without_header}
@@ -116,4 +116,4 @@ begun_news own needed n frame = record no_news {
 -- a label that an end posted lands
 abbrev pub change_heard : ℕ → Role → Label → LaneChange
 change_heard q Sender label = change_by_write (write_of q label)
-change_heard q Receiver label = change_by_index (index_of q label)
+change_heard q Receiver label = change_by_index (label_index_of q label)

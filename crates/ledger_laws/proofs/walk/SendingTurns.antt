@@ -18,7 +18,7 @@ use Rattle.lane_model.specs.declared.Write.{Write}
 use Rattle.lane_model.specs.declared.Write.TheVariants.{Data, Flag as EntryFlag, Bell as QueueBell}
 use Rattle.ledger_model.specs.Pieces.{pieces_of}
 use Rattle.ledger_model.specs.Reading.{Reading}
-use Rattle.ledger_model.specs.Labels.{label_of, labels_of, write_of, index_of}
+use Rattle.ledger_model.specs.Labels.{label_of, labels_of, write_of, label_index_of}
 use Rattle.ledger_model.specs.Ledger.{LanePart, PairPart, free_of, lane_of, posts, with_lane, updated}
 use Rattle.ledger_model.specs.Log.{is_on}
 use Rattle.ledger_model.specs.Sending.{begun, begun_lane, frame_begun}
@@ -51,7 +51,7 @@ write_of-other queue q (Down p n) ne on = rw (other_queue queue q p ne on) refl
 write_of-other queue q (Bell p) ne on = rw (other_queue queue q p ne on) refl
 write_of-other queue q label ne on = refl
 
-index_of-lane : (queue q : ℕ) (label : Label) → on_queue queue label ≡ true → index_of q label ≡ None
+index_of-lane : (queue q : ℕ) (label : Label) → on_queue queue label ≡ true → label_index_of q label ≡ None
 index_of-lane queue q (Index p n) on = absurd (false≢true on)
 index_of-lane queue q label on = refl
 

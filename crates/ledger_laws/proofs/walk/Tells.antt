@@ -15,7 +15,7 @@ use Rattle.step_kinds.specs.declared.steps.Label.TheVariants.{Bell, Index, Pad}
 use Rattle.step_kinds.specs.declared.steps.Step.{Step}
 use Rattle.step_kinds.specs.declared.steps.Step.TheVariants.{Train, Break, DropDone, Check, Begin, QpDown, Xbegin, Post, Land, Look, Copy, Clear, Ack, Irq}
 use Rattle.lane_model.specs.declared.Write.TheVariants.{Bell as QueueBell}
-use Rattle.ledger_model.specs.Labels.{write_of, index_of}
+use Rattle.ledger_model.specs.Labels.{write_of, label_index_of}
 use Rattle.ledger_model.specs.Ledger.{LanePart}
 use Rattle.ledger_model.specs.Log.{Answered, takes_room, gives_room, trains, breaks, accepts, delivers, is_on}
 use Rattle.ledger_model.specs.Rings.{RingPart, ring_next, with_write, with_index}
@@ -180,7 +180,7 @@ pads_heard e label f j now = now
 
 abbrev pub ring_heard : ℕ → Role → Label → LanePart → Sizes → RingPart → RingPart
 ring_heard q Sender label lane sizes ring = record { ring = with_write sizes.entries lane ring.ring (write_of q label); index_word = ring.index_word }
-ring_heard q Receiver label lane sizes ring = record { ring = ring.ring; index_word = with_index sizes.entries ring.index_word (index_of q label) }
+ring_heard q Receiver label lane sizes ring = record { ring = ring.ring; index_word = with_index sizes.entries ring.index_word (label_index_of q label) }
 
 -- a doorbell is no write to the ring, whichever queue it is for
 pub bell_in_ring : (q k : ℕ) (e : Role) (lane : LanePart) (sizes : Sizes) (ring : RingPart) → ring_heard q e (Bell k) lane sizes ring ≡ ring

@@ -22,7 +22,7 @@ use Rattle.lane_model.specs.declared.Write.{Write}
 use Rattle.lane_model.specs.declared.Write.TheVariants.{Data, Flag as EntryFlag}
 use Rattle.ledger_model.specs.Handshake.{check_refusal}
 use Rattle.pair_model.specs.Pads.{offers}
-use Rattle.ledger_model.specs.Labels.{labels_of, write_of, index_of}
+use Rattle.ledger_model.specs.Labels.{labels_of, write_of, label_index_of}
 use Rattle.ledger_model.specs.Ledger.{LanePart, Tally, entry_in, free_of, updated}
 use Rattle.pair_model.specs.Link.{is_up, is_down, is_closing}
 use Rattle.ledger_model.specs.LinkSteps.{fresh_lane}
@@ -142,7 +142,7 @@ pub record MayStray (raw : Bool) (q : ℕ) (before after : LanePart) : Type 0 wh
 -- not a write of this lane, where this end posts it
 abbrev pub IsForeign : ℕ → Role → Label → Type 0
 IsForeign q Sender label = write_of q label ≡ None
-IsForeign q Receiver label = index_of q label ≡ None
+IsForeign q Receiver label = label_index_of q label ≡ None
 
 -- whether a label writes a scratchpad of the handshake
 abbrev pub is_handshake : Label → Bool

@@ -2,7 +2,7 @@ use Rattle.std.proofs.Common.{◌≡◌, ℕ, ◌++◌, List, ap, sym, ◌∙◌
 use Rattle.std.specs.List.{flat_map}
 use Rattle.step_kinds.specs.declared.names.LaneName.{LaneName}
 use Rattle.ledger_model.specs.Log.{Answered}
-use Rattle.cluster_core.specs.LogClauses.{log_after}
+use Rattle.cluster_core.specs.LogClauses.{cluster_log_after}
 use Rattle.step_kinds.specs.declared.plan.LaneCount.{LaneCount}
 use Rattle.cluster_core.specs.Counts.{filled, lanes_from}
 use Rattle.ledger_model.specs.PlanLog.{sessions_of_lane}
@@ -12,7 +12,7 @@ use Rattle.cluster_core.proofs.counts.push_lanes.Goals as goal
 pub loop-queue-preserved : goal.loop-queue-preserved
 loop-queue-preserved c =
     λ plan steps made.
-    let log : List Answered = log_after plan steps in
+    let log : List Answered = cluster_log_after plan steps in
     let queue : ℕ = c.loop-queue.queue in
     let lane : LaneName = record { pair = c.args.pair; from = c.args.from; queue = queue } in
     adds_both c.args.counts.now.items c.loop-queue.counts.items c.push_sessions.new.counts.items
@@ -25,4 +25,4 @@ returns c =
     λ plan steps made.
     let all : c.loop-queue.queue ≡ c.args.queues = omega arith in
     c.loop-queue.invariant plan steps made
-    ∙ ap (λ (queues : ℕ). c.args.counts.now.items ++ filled (flat_map (sessions_of_lane plan (log_after plan steps)) (lanes_from c.args.pair c.args.from queues))) all
+    ∙ ap (λ (queues : ℕ). c.args.counts.now.items ++ filled (flat_map (sessions_of_lane plan (cluster_log_after plan steps)) (lanes_from c.args.pair c.args.from queues))) all

@@ -1,7 +1,7 @@
 use Rattle.std.proofs.Common.{◌+◌, [], ◌∷◌, ◌++◌, List, map, ap, sym, ◌∙◌}
 use Rattle.std.specs.List.{range_with_len}
 use Rattle.ledger_model.specs.Log.{Answered}
-use Rattle.cluster_core.specs.LogClauses.{log_after}
+use Rattle.cluster_core.specs.LogClauses.{cluster_log_after}
 use Rattle.step_kinds.specs.declared.plan.LaneCount.{LaneCount}
 use Rattle.cluster_core.specs.Counts.{filled}
 use Rattle.ledger_model.specs.PlanLog.{lane_count}
@@ -11,7 +11,7 @@ use Rattle.cluster_core.proofs.counts.push_sessions.Goals as goal
 pub loop-before-preserved : goal.loop-before-preserved
 loop-before-preserved c =
     λ plan steps made.
-    let log : List Answered = log_after plan steps in
+    let log : List Answered = cluster_log_after plan steps in
     let lane = c.args.lane in
     let before = c.loop-before.before in
     adds_both c.args.counts.now.items c.loop-before.counts.items c.push_session.new.counts.items

@@ -8,7 +8,7 @@ use Rattle.pair_model.specs.Switches.{IsMakeable}
 use Rattle.step_list.specs.Compact.{lines_with, step_again}
 use Rattle.step_list.proofs.Facade.{repeats_more}
 use Rattle.cluster_core.specs.Cluster.{plan_held}
-use Rattle.cluster_core.specs.Refusals.{is_plain}
+use Rattle.cluster_core.specs.Refusals.{is_plain_step}
 use Rattle.cluster_core.specs.PlanSteps.{HasKept}
 use Rattle.cluster_core.proofs.PermittedSteps.{again_permitted}
 use Rattle.cluster_core.proofs.StepsMade.{kept_both, kept_one}
@@ -55,7 +55,7 @@ returns-then-not-is_made-clause-kept g c =
     (λ is.
     subst (λ (step : Step). HasKept with_answer plan before (lines_with c.args.line (replicate c.args.count step)) c.step.new.self c.args.kept.now c.keep_times.new.self) c.step-step.ensures
     (kept_rest c.refused_again.ensures with_answer plan c.args.line step c.in_ok-answer.answer (sym c.is_made.ensures ∙ c.if-not-is_made.true)
-    (ap is_plain c.step-step.ensures ∙ repeated_counts c.args.repeated)
+    (ap is_plain_step c.step-step.ensures ∙ repeated_counts c.args.repeated)
     before c.loop-made.made c.args.count (omega arith) c.loop-made.cluster c.step.new.self c.args.kept.now c.loop-made.kept c.keep_times.new.self so_far
     (c.in_ok-answer.ensures.made plan (steps_in (before ++ lines)) so_far.replayed.made) c.in_ok-answer.ensures.plan
     (c.in_ok-answer.ensures.answered plan (steps_in (before ++ lines)) so_far.replayed.made) is))

@@ -3,7 +3,7 @@ use Rattle.std.proofs.lemmas.List.{nil_from_length}
 use Rattle.step_kinds.specs.Runs.{lane_shown}
 use Rattle.step_kinds.specs.declared.runs.LaneRun.{LaneRun}
 use Rattle.cluster_run.specs.LaneKeys.{LaneKey, ComesTo, keys_of}
-use Rattle.cluster_run.specs.Runs.{IsFit, IsShown}
+use Rattle.cluster_run.specs.Runs.{IsFit, IsRunShown}
 use Rattle.cluster_run.proofs.RecordFits.{record_fits, record_shown}
 use Rattle.cluster_run.proofs.RunSoFar.{HasCome, group_over, all_over}
 use Rattle.cluster_run.proofs.run.run_plan.Goals as goal
@@ -29,5 +29,5 @@ returns-clause-shown g c =
     let parts = c.loop-first.parts in
     let none = nil_from_length c.loop-first.waiting.items (omega (arith, c.in_default.ensures.cases.0, c.loop-first.waiting.ok.0)) in
     let come = all_over ComesTo c.args.plan.now none c.loop-first.invariant in
-    subst (λ (lanes : List LaneRun). IsShown c.args.plan.now (map lane_shown lanes) parts.proofs.items) (sym c.of_vec-lanes.ensures)
+    subst (λ (lanes : List LaneRun). IsRunShown c.args.plan.now (map lane_shown lanes) parts.proofs.items) (sym c.of_vec-lanes.ensures)
     (record_shown c.args.plan.now (map lane_shown parts.lanes.items) parts.proofs.items come)

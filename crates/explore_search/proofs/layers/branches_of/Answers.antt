@@ -5,7 +5,7 @@ use Rattle.std.proofs.lemmas.List.{length_push}
 use Rattle.step_kinds.specs.declared.steps.Step.{Step}
 use Rattle.explore_model.specs.Schedules.{text_after}
 use Rattle.explore_search.specs.Layers.{BranchCovers, step_at}
-use Rattle.explore_search.specs.States.{HasRun, Reaches}
+use Rattle.explore_search.specs.States.{HasSearchRun, Reaches}
 use Rattle.explore_search.specs.declared.states.State.{State}
 use Rattle.explore_search.proofs.Lists.{each_more}
 use Rattle.explore_search.proofs.layers.branches_of.Goals as goal
@@ -19,7 +19,7 @@ loop-state-preserved g c =
     record {
       kept = c.in_ok-step_state.ensures.kept;
       each = λ answers all.
-          c.in_ok-step_state.ensures.each answers (subst (λ (state : State g.row.M.Denot). HasRun plan c.args.done answers state) (sym turn.1) (all (length c.loop-state.yielded) state turn.0))
+          c.in_ok-step_state.ensures.each answers (subst (λ (state : State g.row.M.Denot). HasSearchRun plan c.args.done answers state) (sym turn.1) (all (length c.loop-state.yielded) state turn.0))
           (c.loop-state.invariant.each answers all);
       ordered = c.in_ok-step_state.ensures.ordered c.loop-state.invariant.ordered;
       taken = λ k d below.

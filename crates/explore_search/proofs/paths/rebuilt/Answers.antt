@@ -5,7 +5,7 @@ use Rattle.step_kinds.specs.declared.plan.Line.{Line}
 use Rattle.step_kinds.specs.declared.steps.Step.{Step}
 use Rattle.pair_model.specs.Switches.{IsMakeable}
 use Rattle.explore_model.specs.declared.outcome.Landing.{Landing}
-use Rattle.explore_search.specs.Paths.{Walked, between, script_of, walked}
+use Rattle.explore_search.specs.Paths.{Walked, between, search_script_of, walked}
 use Rattle.explore_search.proofs.AlongPaths.{path_of_walked, walked_more}
 use Rattle.explore_search.proofs.Makeable.{landing_makeable, lines_makeable}
 use Rattle.explore_search.proofs.paths.rebuilt.Goals as goal
@@ -35,7 +35,7 @@ pub loop-landing-preserved : goal.loop-landing-preserved
 unfolding no_landing
 loop-landing-preserved g c =
     let landing : Landing = get_or c.args.landings.now c.loop-landing.landing-index no_landing in
-    let script : List Step = script_of c.args.plan.now in
+    let script : List Step = search_script_of c.args.plan.now in
     let now : Walked = walked script (take c.loop-landing.landing-index c.args.landings.now) in
     let more = walked_more script c.args.landings.now c.loop-landing.landing-index no_landing (omega arith) in
     record {
@@ -53,6 +53,6 @@ loop-landing-preserved g c =
 pub returns-clause-made : goal.returns-clause-made
 returns-clause-made g c =
     subst (λ (made : List Step). g.M.Machine.has_made c.make_lines-2.new.machine c.args.plan.now made)
-    (path_of_walked c.as_slice-lines.result.now (script_of c.args.plan.now) c.args.landings.now c.loop-landing.landing-index c.loop-landing.at c.args.done
+    (path_of_walked c.as_slice-lines.result.now (search_script_of c.args.plan.now) c.args.landings.now c.loop-landing.landing-index c.loop-landing.at c.args.done
     (ap steps_in c.as_slice-lines.ensures) (omega arith) c.loop-landing.invariant.at)
     (c.in_ok-make_lines-2.ensures.made c.args.plan.now _ c.loop-landing.invariant.made)

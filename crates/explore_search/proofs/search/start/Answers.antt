@@ -1,7 +1,7 @@
 use Rattle.std.proofs.Common.{◌∙◌, ◌∷◌, ◌++◌, [], List, ap, subst, sym}
 use Rattle.step_kinds.specs.declared.steps.Step.{Step}
 use Rattle.explore_model.specs.declared.outcome.Landing.{Landing}
-use Rattle.explore_search.specs.Paths.{path, script_of}
+use Rattle.explore_search.specs.Paths.{path, search_script_of}
 use Rattle.explore_search.specs.States.{Joined}
 use Rattle.explore_search.specs.declared.layers.Group.{Group}
 use Rattle.explore_search.specs.declared.states.State.{State}
@@ -11,7 +11,7 @@ use Rattle.explore_search.proofs.search.start.Goals as goal
 
 pub join-requires-clause-machine : goal.join-requires-clause-machine
 join-requires-clause-machine g c =
-    let script = script_of c.args.plan.now in
+    let script = search_script_of c.args.plan.now in
     record {
       made =
           subst (λ (made : List Step). g.M.Machine.has_made c.in_ok-machine.machine c.args.plan.now made)

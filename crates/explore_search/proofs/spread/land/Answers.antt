@@ -8,7 +8,7 @@ use Rattle.ledger_model.specs.Memory.{memory_of}
 use Rattle.ledger_model.specs.NetworkLog.{answer_after}
 use Rattle.explore_model.specs.Schedules.{is_landed}
 use Rattle.explore_model.specs.declared.outcome.Landing.{Landing}
-use Rattle.explore_search.specs.Paths.{IsLandingBy, path, script_of}
+use Rattle.explore_search.specs.Paths.{IsLandingBy, path, search_script_of}
 use Rattle.explore_search.specs.Spread.{Lands}
 use Rattle.explore_search.specs.States.{IsMachineAt, made_to}
 use Rattle.explore_search.specs.declared.states.State.{State}
@@ -69,7 +69,7 @@ join-requires-clause-machine g c =
     record {
       made =
           made_by_landing g.M.Machine.has_made g.M.Machine.plan_held g.M.Machine.key_of plan c.args.done c.step.new.self landings c.in_ok-landings.landings.items c.args.landing c.as_step.result
-          (c.in_ok-answer.ensures.made plan (path (script_of plan) landings c.args.done)
+          (c.in_ok-answer.ensures.made plan (path (search_script_of plan) landings c.args.done)
           (subst (λ (state : State g.row.M.Denot). g.M.Machine.has_made c.in_ok-machine.machine plan (made_to plan c.args.done state)) same c.in_ok-machine.ensures.made))
           c.as_step.ensures c.requires.landing.at (c.in_ok-landings.ensures ∙ ap (λ (landings : List Landing). landings ++ c.args.landing ∷ []) copied);
       held = c.in_ok-answer.ensures.plan ∙ c.in_ok-machine.ensures.held;
@@ -108,6 +108,6 @@ returns-clause-lands g c =
     (leads_by_landing g.M.Machine.has_made g.M.Machine.plan_held g.M.Machine.key_of plan c.args.done g.met.M.Machine.same_steps c.args.states.now c.join.new.states state c.args.landing c.in_ok-landings.landings.items
     c.in_ok-machine.machine c.step.new.self c.as_step.result at (λ made has. c.in_ok-answer.ensures.made plan made has) c.as_step.ensures
     (made_by_landing g.M.Machine.has_made g.M.Machine.plan_held g.M.Machine.key_of plan c.args.done c.step.new.self state.landings.items c.in_ok-landings.landings.items c.args.landing c.as_step.result
-    (c.in_ok-answer.ensures.made plan (path (script_of plan) state.landings.items c.args.done) at)
+    (c.in_ok-answer.ensures.made plan (path (search_script_of plan) state.landings.items c.args.done) at)
     c.as_step.ensures c.requires.landing.at (c.in_ok-landings.ensures ∙ ap (λ (landings : List Landing). landings ++ c.args.landing ∷ []) copied))
     c.in_ok-join.ensures)

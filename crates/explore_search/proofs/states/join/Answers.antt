@@ -1,7 +1,7 @@
 use Rattle.std.proofs.Common.{◌∙◌, ◌++◌, ℕ, List, ap, subst, sym}
 use Rattle.std.proofs.lemmas.Option.{IfSome_then}
 use Rattle.std.proofs.lemmas.Result.{on_ok_weaker}
-use Rattle.explore_search.specs.Paths.{path, script_of}
+use Rattle.explore_search.specs.Paths.{path, search_script_of}
 use Rattle.explore_search.specs.States.{IsMachineAt, found}
 use Rattle.explore_search.proofs.SameStates.{state_by}
 use Rattle.explore_search.proofs.StatesAdded.{added_last}
@@ -9,12 +9,12 @@ use Rattle.explore_search.proofs.states.join.Goals as goal
 
 pub returns-then-branch : goal.returns-then-branch
 returns-then-branch g c =
-    found ((c.in_ok-is_among.ensures (path (script_of c.args.plan.now) c.args.landings.items c.args.done) c.requires.machine.made).0 c.if-branch.true)
+    found ((c.in_ok-is_among.ensures (path (search_script_of c.args.plan.now) c.args.landings.items c.args.done) c.requires.machine.made).0 c.if-branch.true)
 
 pub returns : goal.returns
 returns g c =
     let plan = c.args.plan.now in
-    let made = path (script_of plan) c.args.landings.items c.args.done in
+    let made = path (search_script_of plan) c.args.landings.items c.args.done in
     on_ok_weaker c.push.result
     (λ pushed.
     added_last g.M.Machine.has_made g.M.Machine.plan_held g.M.Machine.key_of plan c.args.done c.args.landings.items c.args.states.now c.push.new.self pushed.state pushed.is

@@ -3,7 +3,7 @@ use Rattle.std.proofs.lemmas.List.{drop_all}
 use Rattle.lane_model.specs.Lane.{chunks_in}
 use Rattle.pair_model.specs.Pieces.{pieces_of}
 use Rattle.pair_model.specs.Sizes.{pieces_in}
-use Rattle.frame_ring.specs.Outgoing.{all_writes_in, entry_at, writes_in}
+use Rattle.frame_ring.specs.Outgoing.{all_writes_in, entry_at, port_writes_in}
 use Rattle.frame_ring.proofs.Entries.{entry_and_others, length-pieces_of}
 use Rattle.frame_ring.proofs.EntryPages.{piece_length}
 use Rattle.frame_ring.proofs.promises.count_writes.Goals as goal
@@ -15,7 +15,7 @@ loop-k-preserved c =
     let pieces = pieces_of largest frame in
     let piece = piece_length largest largest c.loop-k.k c.pieces_in-k-end.result frame c.bytes.result.now c.piece_bytes.result.now refl c.bytes.ensures.value c.piece_bytes.ensures.value
     (c.pieces_in-k-end.ensures.value ∙ ap (pieces_in largest) c.len.ensures.value) c.loop-k-test.true in
-    let writes : c.writes_in.result ≡ writes_in (entry_at pieces c.loop-k.k) = c.writes_in.ensures.value ∙ ap (λ len. chunks_in len + 4) piece.0 in
+    let writes : c.writes_in.result ≡ port_writes_in (entry_at pieces c.loop-k.k) = c.writes_in.ensures.value ∙ ap (λ len. chunks_in len + 4) piece.0 in
     let others = entry_and_others pieces c.loop-k.k piece.1 in
     record {
       rest = omega (arith, writes, others, c.loop-k.invariant.rest);

@@ -1,6 +1,6 @@
 use Rattle.std.proofs.Common.{◌≡◌, ◌∙◌, List, ℕ, inl, ap, sym, subst}
 use Rattle.step_kinds.specs.declared.plan.PairPlan.{PairPlan}
-use Rattle.bridge_pair.specs.Bridge.{Bridge, bytes_of, pages_of}
+use Rattle.bridge_pair.specs.Bridge.{Bridge, bridge_bytes_of, pages_of}
 use Rattle.bridge_pair.specs.Pages.{PagesGrow}
 use Rattle.bridge_pair.specs.Words.{AreIndexWordsPromised}
 use Rattle.bridge_pair.proofs.Facade.{grows_further, grows_nothing, pages_again, pages_of-with_bytes}
@@ -12,19 +12,19 @@ use Rattle.hand_shake.proofs.checks.come_up.Goals as goal
 
 pub returns-in_err-promise_headers-clause-pages : goal.returns-in_err-promise_headers-clause-pages
 returns-in_err-promise_headers-clause-pages c =
-    let bytes = bytes_of c.args.pair.now c.args.side in
+    let bytes = bridge_bytes_of c.args.pair.now c.args.side in
     grows_further (TouchesAnyRing c.args.pair.now.plan c.args.side bytes) (TouchesHeader c.args.pair.now.plan c.args.side bytes) _ _ _
     (grows_nothing (TouchesAnyRing c.args.pair.now.plan c.args.side bytes) (pages_of c.args.pair.now c.args.side)) c.promise_headers.ensures.grown.pages (λ page touch. inl touch)
 
 pub returns-in_err-promise_index_words-clause-pages : goal.returns-in_err-promise_index_words-clause-pages
 returns-in_err-promise_index_words-clause-pages c =
-    rings_grow c.args.pair.now.plan c.promise_headers.new.pair.plan c.args.side (bytes_of c.args.pair.now c.args.side) _ _ _ (ap (λ (bridge : Bridge). bridge.plan) c.promise_headers.ensures.grown.rest) c.promise_headers.ensures.grown.pages c.promise_index_words.ensures.grown.pages
+    rings_grow c.args.pair.now.plan c.promise_headers.new.pair.plan c.args.side (bridge_bytes_of c.args.pair.now c.args.side) _ _ _ (ap (λ (bridge : Bridge). bridge.plan) c.promise_headers.ensures.grown.rest) c.promise_headers.ensures.grown.pages c.promise_index_words.ensures.grown.pages
 
 pub zero_headers-requires-clause-ready : goal.zero_headers-requires-clause-ready
 zero_headers-requires-clause-ready c =
     seen_since c.args.pair.now c.promise_index_words.new.self c.args.side (λ plan bytes. AreHeadersReady plan c.args.side bytes (pages_of c.promise_index_words.new.self c.args.side))
     (pages_again c.args.pair.now c.promise_headers.new.pair c.promise_index_words.new.self c.args.side c.promise_headers.ensures.grown.rest c.promise_index_words.ensures.grown.rest)
-    (headers_still c.args.pair.now.plan c.promise_headers.new.pair.plan c.args.side (bytes_of c.args.pair.now c.args.side) _ _ c.promise_index_words.ensures.grown.pages (rw c.in_ok-promise_headers.was at c.promise_headers.ensures.ok))
+    (headers_still c.args.pair.now.plan c.promise_headers.new.pair.plan c.args.side (bridge_bytes_of c.args.pair.now c.args.side) _ _ c.promise_index_words.ensures.grown.pages (rw c.in_ok-promise_headers.was at c.promise_headers.ensures.ok))
 
 pub set_index_words-requires-clause-promised : goal.set_index_words-requires-clause-promised
 set_index_words-requires-clause-promised c =
@@ -44,13 +44,13 @@ returns-clause-pages c =
     let pages =
     (came_up_is c.args.pair.now c.promise_headers.new.pair c.promise_index_words.new.self c.zero_headers.new.pair c.set_index_words.new.self c.set_book.new.self c.args.side
     (record { first = c.promise_headers.ensures.grown.rest; second = c.promise_index_words.ensures.grown.rest; zeroes = c.zero_headers.ensures; sets = c.set_index_words.ensures; keeps = rw c.book-book.ensures.value at c.set_book.ensures })).1 in
-    subst (λ (pages : List ℕ). PagesGrow (TouchesAnyRing c.args.pair.now.plan c.args.side (bytes_of c.args.pair.now c.args.side)) (pages_of c.args.pair.now c.args.side) pages) (sym pages)
-    (rings_grow c.args.pair.now.plan c.promise_headers.new.pair.plan c.args.side (bytes_of c.args.pair.now c.args.side) _ _ _ (ap (λ (bridge : Bridge). bridge.plan) c.promise_headers.ensures.grown.rest) c.promise_headers.ensures.grown.pages c.promise_index_words.ensures.grown.pages)
+    subst (λ (pages : List ℕ). PagesGrow (TouchesAnyRing c.args.pair.now.plan c.args.side (bridge_bytes_of c.args.pair.now c.args.side)) (pages_of c.args.pair.now c.args.side) pages) (sym pages)
+    (rings_grow c.args.pair.now.plan c.promise_headers.new.pair.plan c.args.side (bridge_bytes_of c.args.pair.now c.args.side) _ _ _ (ap (λ (bridge : Bridge). bridge.plan) c.promise_headers.ensures.grown.rest) c.promise_headers.ensures.grown.pages c.promise_index_words.ensures.grown.pages)
 
 pub returns-clause-ready : goal.returns-clause-ready
 returns-clause-ready c =
     let pages =
     (came_up_is c.args.pair.now c.promise_headers.new.pair c.promise_index_words.new.self c.zero_headers.new.pair c.set_index_words.new.self c.set_book.new.self c.args.side
     (record { first = c.promise_headers.ensures.grown.rest; second = c.promise_index_words.ensures.grown.rest; zeroes = c.zero_headers.ensures; sets = c.set_index_words.ensures; keeps = rw c.book-book.ensures.value at c.set_book.ensures })).1 in
-    rings_ready c.args.pair.now.plan c.promise_headers.new.pair.plan c.args.side (bytes_of c.args.pair.now c.args.side) _ _ _ (ap (λ (bridge : Bridge). bridge.plan) c.promise_headers.ensures.grown.rest) c.promise_index_words.ensures.grown.pages pages
+    rings_ready c.args.pair.now.plan c.promise_headers.new.pair.plan c.args.side (bridge_bytes_of c.args.pair.now c.args.side) _ _ _ (ap (λ (bridge : Bridge). bridge.plan) c.promise_headers.ensures.grown.rest) c.promise_index_words.ensures.grown.pages pages
     (rw c.in_ok-promise_headers.was at c.promise_headers.ensures.ok) (rw c.in_ok-promise_index_words.was at c.promise_index_words.ensures.ok)

@@ -3,7 +3,7 @@ use Rattle.pair_model.specs.DeclaredPlans.{IsPair}
 use Rattle.plan_numbers.specs.Memories.{WindowsFit}
 use Rattle.step_kinds.specs.declared.plan.PairPlan.{PairPlan}
 use Rattle.ring_geometry.specs.Geometry.{Layout, entries_of}
-use Rattle.bridge_pair.specs.Bridge.{bytes_of}
+use Rattle.bridge_pair.specs.Bridge.{bridge_bytes_of}
 use Rattle.hand_shake.proofs.HeaderPages.{at_same}
 use Rattle.hand_shake.proofs.SomeHeaders.{span_within, span_zeroed}
 use Rattle.hand_shake.proofs.headers.are_zero.Goals as goal
@@ -28,14 +28,14 @@ pub returns-then-len-from-clause-zero : goal.returns-then-len-from-clause-zero
 returns-then-len-from-clause-zero c =
     λ yes.
     let slots = subst (λ (l : Layout). c.args.to ≤ entries_of l) c.requires.ring.0 c.requires.slots in
-    span_zeroed c.args.pair.now.plan _ c.args.side c.args.ring.now.queue c.args.from c.args.to _ _ _ c.from.result (bytes_of c.args.pair.now c.args.side) c.plan-plan.ensures.value c.requires.some slots
+    span_zeroed c.args.pair.now.plan _ c.args.side c.args.ring.now.queue c.args.from c.args.to _ _ _ c.from.result (bridge_bytes_of c.args.pair.now c.args.side) c.plan-plan.ensures.value c.requires.some slots
     c.header_at-first.ensures.value c.header_at-last.ensures.value (c.from.ensures ∙ c.header_bytes.ensures) c.saturating_sub.ensures (c.is_zero.ensures.0 yes)
 
 pub returns-else-len-from-clause-zero : goal.returns-else-len-from-clause-zero
 returns-else-len-from-clause-zero c =
     λ yes.
     let slots = subst (λ (l : Layout). c.args.to ≤ entries_of l) c.requires.ring.0 c.requires.slots in
-    span_zeroed c.args.pair.now.plan _ c.args.side c.args.ring.now.queue c.args.from c.args.to _ _ _ c.from.result (bytes_of c.args.pair.now c.args.side) c.plan-plan.ensures.value c.requires.some slots
+    span_zeroed c.args.pair.now.plan _ c.args.side c.args.ring.now.queue c.args.from c.args.to _ _ _ c.from.result (bridge_bytes_of c.args.pair.now c.args.side) c.plan-plan.ensures.value c.requires.some slots
     c.header_at-first.ensures.value c.header_at-last.ensures.value (c.from.ensures ∙ c.header_bytes.ensures) c.saturating_sub.ensures (c.is_blank.ensures.zeros yes)
 
 pub header_at-last-requires-clause-declared : goal.header_at-last-requires-clause-declared

@@ -1,7 +1,7 @@
 use Rattle.std.proofs.Common.{◌≡◌, ◌∙◌, ◌<◌, ap, subst}
 use Rattle.pair_model.specs.Sizes.{header_bytes, layout_to}
 use Rattle.ring_geometry.specs.Geometry.{Layout, entries_of}
-use Rattle.bridge_pair.specs.Bridge.{bytes_of}
+use Rattle.bridge_pair.specs.Bridge.{bridge_bytes_of}
 use Rattle.hand_shake.proofs.HeaderPages.{at_same, one_grows, one_promised}
 use Rattle.hand_shake.proofs.headers.promise_header.Goals as goal
 
@@ -14,7 +14,7 @@ returns-clause-grown c =
     let len : c.from-len.result ≡ header_bytes plan = c.from-len.ensures ∙ c.header_bytes.ensures ∙ ap header_bytes c.plan-2.ensures.value in
     record {
       rest = c.promise_range.ensures.rest;
-      pages = one_grows plan c.args.side queue c.args.n _ _ (bytes_of c.args.pair.now c.args.side) _ _ at len slot c.requires.nonzero c.promise_range.ensures.pages;
+      pages = one_grows plan c.args.side queue c.args.n _ _ (bridge_bytes_of c.args.pair.now c.args.side) _ _ at len slot c.requires.nonzero c.promise_range.ensures.pages;
     }
 
 pub returns-clause-ok : goal.returns-clause-ok

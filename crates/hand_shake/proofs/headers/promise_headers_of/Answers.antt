@@ -3,7 +3,7 @@ use Rattle.pair_model.specs.Addresses.{own_header}
 use Rattle.host_memory.specs.Memory.{ArePromised}
 use Rattle.pair_model.specs.Sizes.{header_bytes, layout_to}
 use Rattle.ring_geometry.specs.Geometry.{Layout, entries_of}
-use Rattle.bridge_pair.specs.Bridge.{Bridge, bytes_of, pages_of}
+use Rattle.bridge_pair.specs.Bridge.{Bridge, bridge_bytes_of, pages_of}
 use Rattle.bridge_pair.specs.Pages.{PagesGrow}
 use Rattle.bridge_pair.proofs.Facade.{grows_nothing, pages_again}
 use Rattle.pair_model.specs.Plans.{side_plan}
@@ -20,7 +20,7 @@ loop-count-init c =
     let queue = c.args.queue in
     let same : c.receiving_ring-ring.result.queue ≡ queue = ap (λ (l : Layout). l.queue) c.receiving_ring-ring.ensures in
     let all = entries_of (layout_to pair.plan side queue) in
-    let bytes = bytes_of pair side in
+    let bytes = bridge_bytes_of pair side in
     let count = c.up_to_nonzero-count.result in
     let told = c.up_to_nonzero-count.ensures in
     let size : c.entries.result ≡ all = c.entries.ensures.value ∙ ap entries_of (c.receiving_ring-ring.ensures ∙ ap (λ plan. layout_to plan side queue) c.plan.ensures.value) in
@@ -86,7 +86,7 @@ returns-in_err-promise_header-clause-grown c =
       rest = pages_again pair now c.promise_header.new.pair side so_far.rest next.rest;
       pages =
           header_grows pair now side queue _ so_far.rest so_far.pages
-          (subst (λ (q : ℕ). PagesGrow (TouchesHeaderOf now.plan side q (bytes_of now side)) (pages_of now side) (pages_of c.promise_header.new.pair side)) same next.pages);
+          (subst (λ (q : ℕ). PagesGrow (TouchesHeaderOf now.plan side q (bridge_bytes_of now side)) (pages_of now side) (pages_of c.promise_header.new.pair side)) same next.pages);
     }
 
 pub loop-count-preserved : goal.loop-count-preserved
@@ -103,7 +103,7 @@ loop-count-preserved c =
     let told = c.up_to_nonzero-count-in-loop-count.ensures in
     let so_far = c.loop-count.invariant.grown in
     let next = c.promise_header.ensures.grown in
-    let pages = subst (λ (q : ℕ). PagesGrow (TouchesHeaderOf now.plan side q (bytes_of now side)) (pages_of now side) (pages_of new side)) same next.pages in
+    let pages = subst (λ (q : ℕ). PagesGrow (TouchesHeaderOf now.plan side q (bridge_bytes_of now side)) (pages_of now side) (pages_of new side)) same next.pages in
     let rest = pages_again pair now new side so_far.rest next.rest in
     record {
       count = omega (arith, told.fewer, c.loop-count.invariant.count);
@@ -112,7 +112,7 @@ loop-count-preserved c =
       done =
           ready_down pair now new side queue count c.loop-count.count all so_far.rest rest c.loop-count.invariant.done pages
           (subst (λ (q : ℕ). ArePromised (own_header now.plan side q n) (header_bytes now.plan) (pages_of new side)) same (rw c.in_ok-promise_header.was at c.promise_header.ensures.ok))
-          (subst (λ (q : ℕ). AreSomeZeroed new.plan side q count n (bytes_of new side)) same told.zero);
+          (subst (λ (q : ℕ). AreSomeZeroed new.plan side q count n (bridge_bytes_of new side)) same told.zero);
     }
 
 pub returns-clause-ok : goal.returns-clause-ok

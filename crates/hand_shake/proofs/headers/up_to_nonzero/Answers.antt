@@ -1,5 +1,5 @@
 use Rattle.std.proofs.Common.{arith}
-use Rattle.bridge_pair.specs.Bridge.{bytes_of}
+use Rattle.bridge_pair.specs.Bridge.{bridge_bytes_of}
 use Rattle.hand_shake.proofs.SomeHeaders.{last_within, zeroed_both}
 use Rattle.hand_shake.proofs.headers.up_to_nonzero.Goals as goal
 
@@ -16,7 +16,7 @@ loop-to-init c =
 pub loop-to-preserved-then-are_zero : goal.loop-to-preserved-then-are_zero
 loop-to-preserved-then-are_zero c =
     let pair = c.args.pair.now in
-    let bytes = bytes_of pair c.args.side in
+    let bytes = bridge_bytes_of pair c.args.side in
     record {
       together = omega arith;
       few = c.loop-to.invariant.few;
@@ -38,7 +38,7 @@ loop-to-preserved-then-together-few c =
 pub loop-to-preserved : goal.loop-to-preserved
 loop-to-preserved c =
     let pair = c.args.pair.now in
-    let bytes = bytes_of pair c.args.side in
+    let bytes = bridge_bytes_of pair c.args.side in
     let from = c.saturating_sub-from.result in
     record {
       together = c.loop-to.invariant.together;
@@ -53,7 +53,7 @@ loop-to-preserved c =
 pub returns-then-last-from-clause-zero : goal.returns-then-last-from-clause-zero
 returns-then-last-from-clause-zero c =
     let pair = c.args.pair.now in
-    zeroed_both pair.plan c.args.side c.args.ring.now.queue _ c.loop-to.to c.args.count (bytes_of pair c.args.side) c.up_to_nonzero_from-last.ensures.zero c.loop-to.invariant.zero
+    zeroed_both pair.plan c.args.side c.args.ring.now.queue _ c.loop-to.to c.args.count (bridge_bytes_of pair c.args.side) c.up_to_nonzero_from-last.ensures.zero c.loop-to.invariant.zero
 
 pub returns-then-last-from-clause-nonzero : goal.returns-then-last-from-clause-nonzero
 returns-then-last-from-clause-nonzero c = λ _. c.up_to_nonzero_from-last.ensures.nonzero c.if-last-from.true
@@ -61,7 +61,7 @@ returns-then-last-from-clause-nonzero c = λ _. c.up_to_nonzero_from-last.ensure
 pub returns-then-last-from-clause-within : goal.returns-then-last-from-clause-within
 returns-then-last-from-clause-within c =
     let pair = c.args.pair.now in
-    λ _. last_within pair.plan c.args.side c.args.ring.now.queue c.loop-to.to c.args.count (bytes_of pair c.args.side) c.loop-to.invariant.fewer c.loop-to.invariant.within c.are_zero.ensures.within
+    λ _. last_within pair.plan c.args.side c.args.ring.now.queue c.loop-to.to c.args.count (bridge_bytes_of pair c.args.side) c.loop-to.invariant.fewer c.loop-to.invariant.within c.are_zero.ensures.within
 
 pub returns-clause-zero : goal.returns-clause-zero
 returns-clause-zero c = λ n _ below. c.loop-to.invariant.zero n (omega arith) below

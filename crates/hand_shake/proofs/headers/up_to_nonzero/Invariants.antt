@@ -1,7 +1,7 @@
 use Rattle.std.proofs.Common.{◌+◌, ◌*◌, ◌-◌, ◌<◌, ◌≤◌, length}
 use Rattle.pair_model.specs.Addresses.{own_header}
 use Rattle.pair_model.specs.Sizes.{header_bytes}
-use Rattle.bridge_pair.specs.Bridge.{bytes_of}
+use Rattle.bridge_pair.specs.Bridge.{bridge_bytes_of}
 use Rattle.hand_shake.specs.Headers.{AreSomeZeroed}
 use Rattle.hand_shake.proofs.headers.up_to_nonzero.Given as goal
 
@@ -11,8 +11,8 @@ invariant-loop-to l =
       together : 1 ≤ l.together;
       few : 1 ≤ l.few;
       fewer : l.to ≤ l.count;
-      zero : AreSomeZeroed l.pair.plan l.side l.ring.queue l.to l.count (bytes_of l.pair l.side);
-      within : l.to < l.count → own_header l.pair.plan l.side l.ring.queue (l.count - 1) + header_bytes l.pair.plan ≤ length (bytes_of l.pair l.side);
+      zero : AreSomeZeroed l.pair.plan l.side l.ring.queue l.to l.count (bridge_bytes_of l.pair l.side);
+      within : l.to < l.count → own_header l.pair.plan l.side l.ring.queue (l.count - 1) + header_bytes l.pair.plan ≤ length (bridge_bytes_of l.pair l.side);
     }
 
 abbrev pub decreases-loop-to : goal.decreases-loop-to

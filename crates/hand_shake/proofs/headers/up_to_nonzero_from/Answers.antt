@@ -2,7 +2,7 @@ use Rattle.std.proofs.Common.{◌≡◌, ◌∙◌, ℕ, ◌+◌, ◌-◌, ap, s
 use Rattle.pair_model.specs.Addresses.{own_header}
 use Rattle.host_memory.specs.Memory.{AreZero}
 use Rattle.pair_model.specs.Sizes.{header_bytes}
-use Rattle.bridge_pair.specs.Bridge.{bytes_of}
+use Rattle.bridge_pair.specs.Bridge.{bridge_bytes_of}
 use Rattle.hand_shake.specs.Headers.{IsZeroed}
 use Rattle.hand_shake.proofs.HeaderPages.{header_back}
 use Rattle.hand_shake.proofs.SomeHeaders.{zeroed_both, zeroed_one}
@@ -36,11 +36,11 @@ returns-then-not-is_zero-clause-nonzero c =
     (omega (arith, c.loop-n-test.true, c.loop-n.auto.n)) (omega (arith, c.requires.some, c.requires.slots)) c.header_at-last.ensures.value (c.from-slot.ensures ∙ c.frame_size.ensures) c.from.ensures in
     let len : c.header_bytes-len.result ≡ header_bytes c.args.pair.now.plan = c.header_bytes-len.ensures ∙ ap header_bytes c.plan-2.ensures.value in
     let same : c.loop-n.n - 1 + 1 - 1 ≡ c.loop-n.n - 1 = omega (arith, c.loop-n-test.true) in
-    let here : AreZero (own_header c.args.pair.now.plan c.args.side c.args.ring.now.queue (c.loop-n.n - 1)) (header_bytes c.args.pair.now.plan) (bytes_of c.args.pair.now c.args.side) =
-    subst (λ (n : ℕ). IsZeroed c.args.pair.now.plan c.args.side c.args.ring.now.queue n (bytes_of c.args.pair.now c.args.side)) same zeroed in
+    let here : AreZero (own_header c.args.pair.now.plan c.args.side c.args.ring.now.queue (c.loop-n.n - 1)) (header_bytes c.args.pair.now.plan) (bridge_bytes_of c.args.pair.now c.args.side) =
+    subst (λ (n : ℕ). IsZeroed c.args.pair.now.plan c.args.side c.args.ring.now.queue n (bridge_bytes_of c.args.pair.now c.args.side)) same zeroed in
     let yes = c.is_zero.ensures.1
-    (subst (λ (at : ℕ). AreZero at c.header_bytes-len.result (bytes_of c.args.pair.now c.args.side)) (sym back.1)
-    (subst (λ (len : ℕ). AreZero (own_header c.args.pair.now.plan c.args.side c.args.ring.now.queue (c.loop-n.n - 1)) len (bytes_of c.args.pair.now c.args.side)) (sym len) here)) in
+    (subst (λ (at : ℕ). AreZero at c.header_bytes-len.result (bridge_bytes_of c.args.pair.now c.args.side)) (sym back.1)
+    (subst (λ (len : ℕ). AreZero (own_header c.args.pair.now.plan c.args.side c.args.ring.now.queue (c.loop-n.n - 1)) len (bridge_bytes_of c.args.pair.now c.args.side)) (sym len) here)) in
     cc (yes, c.if-not-is_zero.true)
 
 pub loop-n-preserved : goal.loop-n-preserved
@@ -51,7 +51,7 @@ loop-n-preserved c =
     let len : c.header_bytes-len.result ≡ header_bytes c.args.pair.now.plan = c.header_bytes-len.ensures ∙ ap header_bytes c.plan-2.ensures.value in
     let n = c.loop-n.n - 1 in
     let plan = c.args.pair.now.plan in
-    let bytes = bytes_of c.args.pair.now c.args.side in
+    let bytes = bridge_bytes_of c.args.pair.now c.args.side in
     let zeroed : AreZero (own_header plan c.args.side c.args.ring.now.queue n) (header_bytes plan) bytes =
     subst (λ (len : ℕ). AreZero (own_header plan c.args.side c.args.ring.now.queue n) len bytes) len
     (subst (λ (at : ℕ). AreZero at c.header_bytes-len.result bytes) back.1 (c.is_zero.ensures.0 c.if-not-is_zero.false)) in

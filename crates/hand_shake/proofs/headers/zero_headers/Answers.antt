@@ -1,5 +1,5 @@
 use Rattle.std.proofs.Common.{◌-◌, ap, ◌∙◌, arith}
-use Rattle.bridge_pair.specs.Bridge.{Bridge, bytes_of, pages_of, with_bytes}
+use Rattle.bridge_pair.specs.Bridge.{Bridge, bridge_bytes_of, pages_of, with_bytes}
 use Rattle.bridge_pair.specs.Ends.{bytes_after}
 use Rattle.bridge_pair.proofs.Facade.{bytes_again}
 use Rattle.hand_shake.specs.Headers.{AreHeadersOfReady, ring_stores}
@@ -11,7 +11,7 @@ pub zero_headers_of-requires-clause-ready : goal.zero_headers_of-requires-clause
 zero_headers_of-requires-clause-ready c =
     let queue = c.loop-queue.queue - 1 in
     stored_again c.args.pair.now c.loop-queue.pair c.args.side _ (λ plan bytes pages. AreHeadersOfReady plan c.args.side queue bytes pages) c.loop-queue.invariant.so_far
-    (ready_after_rings c.args.pair.now.plan c.args.side queue _ (bytes_of c.args.pair.now c.args.side) (pages_of c.args.pair.now c.args.side)
+    (ready_after_rings c.args.pair.now.plan c.args.side queue _ (bridge_bytes_of c.args.pair.now c.args.side) (pages_of c.args.pair.now c.args.side)
     (c.requires.ready queue (omega (arith, c.loop-queue.invariant.all, c.loop-queue.auto.queue, c.loop-queue-test.true))))
 
 pub loop-queue-preserved : goal.loop-queue-preserved
@@ -20,7 +20,7 @@ loop-queue-preserved c =
     let queue = c.loop-queue.queue - 1 in
     let left = c.side_plan-queues.result.queues - c.loop-queue.queue in
     let stored =
-    ring_before c.args.pair.now.plan c.loop-queue.pair.plan c.args.side queue c.loop-queue.queue left (c.side_plan-queues.result.queues - queue) (bytes_of c.args.pair.now c.args.side) same
+    ring_before c.args.pair.now.plan c.loop-queue.pair.plan c.args.side queue c.loop-queue.queue left (c.side_plan-queues.result.queues - queue) (bridge_bytes_of c.args.pair.now c.args.side) same
     (omega (arith, c.loop-queue-test.true)) (omega (arith, c.loop-queue-test.true, c.loop-queue.auto.queue)) in
     record {
       all = c.loop-queue.invariant.all;

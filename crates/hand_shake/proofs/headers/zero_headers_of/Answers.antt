@@ -3,7 +3,7 @@ use Rattle.pair_model.specs.Addresses.{own_header}
 use Rattle.host_memory.specs.Memory.{written}
 use Rattle.pair_model.specs.Sizes.{header_bytes, layout_to}
 use Rattle.ring_geometry.specs.Geometry.{Layout, entries_of}
-use Rattle.bridge_pair.specs.Bridge.{Bridge, bytes_of, pages_of, with_bytes}
+use Rattle.bridge_pair.specs.Bridge.{Bridge, bridge_bytes_of, pages_of, with_bytes}
 use Rattle.bridge_pair.specs.Ends.{bytes_after}
 use Rattle.bridge_pair.proofs.Facade.{bytes_again}
 use Rattle.hand_shake.specs.Headers.{AreSomeZeroed, IsHeaderReady, some_stores}
@@ -19,7 +19,7 @@ loop-count-init c =
     let queue = c.args.queue in
     let same : c.receiving_ring-ring.result.queue ≡ queue = ap (λ (l : Layout). l.queue) c.receiving_ring-ring.ensures in
     let all = entries_of (layout_to pair.plan side queue) in
-    let bytes = bytes_of pair side in
+    let bytes = bridge_bytes_of pair side in
     let count = c.up_to_nonzero-count.result in
     let told = c.up_to_nonzero-count.ensures in
     let size : c.entries.result ≡ all = c.entries.ensures.value ∙ ap entries_of (c.receiving_ring-ring.ensures ∙ ap (λ plan. layout_to plan side queue) c.plan.ensures.value) in
@@ -45,10 +45,10 @@ zero_header-requires-clause-promised c =
     let now = c.loop-count.pair in
     let n = c.loop-count.count - 1 in
     let within = c.loop-count.invariant.count in
-    let ready : IsHeaderReady now.plan side c.receiving_ring-ring.result.queue n (bytes_of now side) (pages_of now side) =
-    subst (λ (q : ℕ). IsHeaderReady now.plan side q n (bytes_of now side) (pages_of now side)) (sym same)
+    let ready : IsHeaderReady now.plan side c.receiving_ring-ring.result.queue n (bridge_bytes_of now side) (pages_of now side) =
+    subst (λ (q : ℕ). IsHeaderReady now.plan side q n (bridge_bytes_of now side) (pages_of now side)) (sym same)
     (stored_again pair now side _ (λ plan bytes pages. IsHeaderReady plan side queue n bytes pages) c.loop-count.invariant.so_far
-    (ready_after pair.plan side queue n _ (bytes_of pair side) (pages_of pair side) (c.requires.ready n (omega (arith, within, c.loop-count-test.true))))) in
+    (ready_after pair.plan side queue n _ (bridge_bytes_of pair side) (pages_of pair side) (c.requires.ready n (omega (arith, within, c.loop-count-test.true))))) in
     elim ready [
       | inl zero ↦ absurd (c.loop-count.invariant.nonzero (omega (arith, c.loop-count-test.true)) zero)
       | inr promised ↦ promised
@@ -61,15 +61,15 @@ loop-count-preserved c =
     let queue = c.args.queue in
     let same : c.receiving_ring-ring.result.queue ≡ queue = ap (λ (l : Layout). l.queue) c.receiving_ring-ring.ensures in
     let all = entries_of (layout_to pair.plan side queue) in
-    let bytes = bytes_of pair side in
+    let bytes = bridge_bytes_of pair side in
     let now = c.loop-count.pair in
     let new = c.zero_header.new.pair in
     let n = c.loop-count.count - 1 in
     let count = c.up_to_nonzero-count-in-loop-count.result in
     let told = c.up_to_nonzero-count-in-loop-count.ensures in
     let within = c.loop-count.invariant.count in
-    let zeroed : new ≡ with_bytes now side (written (own_header now.plan side queue n) (replicate (header_bytes now.plan) 0) (bytes_of now side)) =
-    subst (λ (q : ℕ). new ≡ with_bytes now side (written (own_header now.plan side q n) (replicate (header_bytes now.plan) 0) (bytes_of now side))) same c.zero_header.ensures in
+    let zeroed : new ≡ with_bytes now side (written (own_header now.plan side queue n) (replicate (header_bytes now.plan) 0) (bridge_bytes_of now side)) =
+    subst (λ (q : ℕ). new ≡ with_bytes now side (written (own_header now.plan side q n) (replicate (header_bytes now.plan) 0) (bridge_bytes_of now side))) same c.zero_header.ensures in
     let stored =
     header_before pair.plan now.plan side queue n c.loop-count.count (all - c.loop-count.count) (all - n) bytes (ap (λ (bridge : Bridge). bridge.plan) c.loop-count.invariant.so_far)
     (omega (arith, within, c.loop-count-test.true)) (omega (arith, c.loop-count-test.true)) (omega (arith, within, c.loop-count-test.true)) in
@@ -80,6 +80,6 @@ loop-count-preserved c =
       nonzero = told.nonzero;
       so_far =
           passed_over pair new side queue count n all so_far told.fewer (omega (arith, within)) (omega arith)
-          (subst (λ (q : ℕ). AreSomeZeroed new.plan side q count n (bytes_of new side)) same told.zero)
-          (λ some. subst (λ (q : ℕ). own_header new.plan side q (n - 1) + header_bytes new.plan ≤ length (bytes_of new side)) same (told.within some));
+          (subst (λ (q : ℕ). AreSomeZeroed new.plan side q count n (bridge_bytes_of new side)) same told.zero)
+          (λ some. subst (λ (q : ℕ). own_header new.plan side q (n - 1) + header_bytes new.plan ≤ length (bridge_bytes_of new side)) same (told.within some));
     }

@@ -1,7 +1,7 @@
 use Rattle.std.proofs.Common.{◌%◌, map, get_or, sym, ap, ◌∙◌, arith}
 use Rattle.lane_model.specs.Lane.{with_field, flags_of}
 use Rattle.lane_model.specs.declared.Write.TheVariants.{Data, Flag}
-use Rattle.lane_core.specs.Parts.{CanStore, entry_in, entry_seen, place_seen, with_flags_at}
+use Rattle.lane_core.specs.Parts.{CanStore, core_entry_in, entry_seen, place_seen, with_flags_at}
 use Rattle.lane_core.proofs.StoredSlots.{entry_read, place_stored}
 use Rattle.lane_core.specs.declared.slot.Slot.{Slot}
 use Rattle.lane_core.proofs.ring.store.Goals as goal
@@ -14,7 +14,7 @@ returns-in-Data c =
     let entry = entry_read c.args.sent.now n c.index-sent-number.result can.1 c.index-sent-number.is in
     let old : Slot = get_or c.args.ring.now c.position_of.result c.index-ring-position_of.result in
     rw c.in-Data.is
-    (place_stored c.args.ring.now n c.position_of.result c.put.new.self c.index-ring-position_of.result (λ place. with_field place n (entry_in sent n) c.in-Data.field)
+    (place_stored c.args.ring.now n c.position_of.result c.put.new.self c.index-ring-position_of.result (λ place. with_field place n (core_entry_in sent n) c.in-Data.field)
     (c.position_of.ensures.value ∙ ap (λ count. n % count) (sym c.requires.ring)) (omega arith)
     (c.put.ensures ∙ ap (λ e. with_field (place_seen old) n e c.in-Data.field) (sym entry)))
 

@@ -1,11 +1,11 @@
 use Rattle.std.proofs.Common.{◌≡◌, ◌≤◌, ◌-◌, drop, length}
-use Rattle.posted_queue.specs.Rows.{room_in}
+use Rattle.posted_queue.specs.Rows.{row_room_in}
 use Rattle.posted_queue.proofs.row.first_with_room.Given as goal
 
 abbrev pub invariant-loop-index : goal.invariant-loop-index
 invariant-loop-index g l = record {
   low : l.from ≤ l.index;
-  room : room_in (drop l.index l.row) ≡ room_in (drop l.from l.row);
+  room : row_room_in (drop l.index l.row) ≡ row_room_in (drop l.from l.row);
 }
 
 abbrev pub decreases-loop-index : goal.decreases-loop-index

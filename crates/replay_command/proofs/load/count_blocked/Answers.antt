@@ -4,7 +4,7 @@ use Rattle.std.proofs.lemmas.List.Elements.{All-weaker}
 use Rattle.step_kinds.specs.declared.plan.Line.{Line}
 use Rattle.pair_model.specs.DeclaredPlans.{IsPermitted}
 use Rattle.pair_model.specs.Switches.{IsMakeable}
-use Rattle.traffic_plan.specs.Load.{LoadGiven, frames_given, lines_of_frame, load_of, plan_of}
+use Rattle.traffic_plan.specs.Load.{LoadGiven, frames_given, lines_of_frame, load_of, load_plan_of}
 use Rattle.traffic_plan.proofs.Facade.{frames_more, lines_permitted, load_is_whole}
 use Rattle.cluster_core.specs.PlanSteps.{HasKept}
 use Rattle.replay_command.specs.Replays.{with_blocked}
@@ -21,10 +21,10 @@ make_steps-requires c =
     let seed = c.args.seed in
     let k = c.loop.counter in
     let own = next_lines seed k c.loop.load c.put_next.new.steps c.loop.invariant.load c.in_ok-put_next.ensures.steps in
-    let permitted : All (λ line. IsPermitted (plan_of []) line.step) c.put_next.new.steps =
-    subst (λ (lines : List Line). All (λ line. IsPermitted (plan_of []) line.step) lines) (sym own) (lines_permitted [] seed k) in
-    let may = All-weaker (λ (line : Line). IsPermitted (plan_of []) line.step) (λ line. IsMakeable (plan_of []) line.step) (λ line may. inl may) c.put_next.new.steps permitted in
-    steps_permitted (plan_of []) _ c.put_next.new.steps c.loop.invariant.kept.replayed.kept may
+    let permitted : All (λ line. IsPermitted (load_plan_of []) line.step) c.put_next.new.steps =
+    subst (λ (lines : List Line). All (λ line. IsPermitted (load_plan_of []) line.step) lines) (sym own) (lines_permitted [] seed k) in
+    let may = All-weaker (λ (line : Line). IsPermitted (load_plan_of []) line.step) (λ line. IsMakeable (load_plan_of []) line.step) (λ line may. inl may) c.put_next.new.steps permitted in
+    steps_permitted (load_plan_of []) _ c.put_next.new.steps c.loop.invariant.kept.replayed.kept may
 
 pub loop-preserved : goal.loop-preserved
 loop-preserved c =

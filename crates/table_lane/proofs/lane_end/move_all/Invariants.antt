@@ -1,11 +1,11 @@
 use Rattle.std.proofs.Common.{◌≡◌, ◌-◌, length}
 use Rattle.table_lane.specs.Views.{the_send, the_move, the_recv}
-use Rattle.table_lane.specs.EndOfLane.{MovesNext, GoesOn}
+use Rattle.table_lane.specs.EndOfLane.{MovesNext, TableGoesOn}
 use Rattle.table_lane.proofs.lane_end.move_all.Given as goal
 
 abbrev pub invariant-loop-number : goal.invariant-loop-number
 invariant-loop-number l = record {
-  goes_on : GoesOn l.initial.seat.table_id l.seat.table_id l.initial.seat.me l.seat.me;
+  goes_on : TableGoesOn l.initial.seat.table_id l.seat.table_id l.initial.seat.me l.seat.me;
   recv : the_recv l.seat.me.0 ≡ the_recv l.initial.seat.me.0;
   next : MovesNext l.entries l.number (the_move l.seat.me.0);
 }

@@ -1,5 +1,5 @@
 use Rattle.std.proofs.Common.{length, ◌^◌, ◌≡◌, ℕ, ◌<◌, sym, ap, ◌∙◌, subst}
-use Rattle.table_lane.specs.Words.{posted_word, header_of}
+use Rattle.table_lane.specs.Words.{posted_word, table_header_of}
 use Rattle.table_lane.specs.Rule.{Sitter}
 use Rattle.table_lane.specs.declared.parts.LaneView.{LaneView}
 use Rattle.table_lane.specs.Views.{HasSend, the_send}
@@ -18,7 +18,7 @@ store-requires c =
     let at = word.1 ∙ ap (posted_word c.args.table.now.key) n in (
       swapped.0 ∙ c.requires.table.0,
       word.0,
-      stores_posted_allowed _ _ _ _ _ _ c.args.frame _ (rest c.args.seat.now.me.1) at (c.header_of.ensures ∙ ap header_of n) (ap (λ (m : Sitter). m.1) swapped.3)
+      stores_posted_allowed _ _ _ _ _ _ c.args.frame _ (rest c.args.seat.now.me.1) at (c.header_of.ensures ∙ ap table_header_of n) (ap (λ (m : Sitter). m.1) swapped.3)
           at c.requires.frame (subst (λ (k : ℕ). k < 2 ^ 62) n c.requires.part.3)
           (subst (λ (v : LaneView). HasSend v) (sym view) c.requires.part.0) (ap (λ (v : LaneView). (the_send v).claims) view ∙ c.requires.part.1),
     )

@@ -1,5 +1,5 @@
 use Rattle.std.proofs.Common.{◌∙◌, ap, sym}
-use Rattle.command_reply.specs.Output.{done}
+use Rattle.command_reply.specs.Output.{reply_done}
 use Rattle.script_plan.specs.Scripts.{plan_in}
 use Rattle.script_text.proofs.Facade.{plan_is_whole}
 use Rattle.trace_command.specs.Answers.{traced}
@@ -11,4 +11,4 @@ trace_text-requires c = plan_is_whole c.args.bytes.now (plan_in c.in-Ok.script) 
 
 pub returns-in_ok-trace_text-in-Ok : goal.returns-in_ok-trace_text-in-Ok
 returns-in_ok-trace_text-in-Ok c =
-    trace_is_true c.args.bytes.now c.done.result (c.done.ensures ∙ ap done c.in_ok-trace_text-in-Ok.ensures ∙ ap traced (sym c.in-Ok.ensures))
+    trace_is_true c.args.bytes.now c.done.result (c.done.ensures ∙ ap reply_done c.in_ok-trace_text-in-Ok.ensures ∙ ap traced (sym c.in-Ok.ensures))

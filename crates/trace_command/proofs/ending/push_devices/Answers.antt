@@ -2,10 +2,10 @@ use Rattle.std.proofs.Common.{◌≡◌, ◌⊎◌, inl, inr, List, [], ◌∷�
 use Rattle.std.proofs.lemmas.List.{append-nil}
 use Rattle.step_kinds.specs.declared.plan.Counters.{Counters}
 use Rattle.step_kinds.specs.declared.plan.DevPlan.{DevPlan}
-use Rattle.trace_command.specs.Lines.{device_lines}
+use Rattle.trace_command.specs.Lines.{trace_device_lines}
 use Rattle.trace_command.proofs.ending.push_devices.Goals as goal
 
-no_lines : (devs : List DevPlan) (counters : List Counters) → (length devs ≡ 0) ⊎ (length counters ≡ 0) → device_lines devs counters ≡ []
+no_lines : (devs : List DevPlan) (counters : List Counters) → (length devs ≡ 0) ⊎ (length counters ≡ 0) → trace_device_lines devs counters ≡ []
 no_lines [] counters none = refl
 no_lines (dev ∷ devs) [] none = refl
 no_lines (dev ∷ devs) (counts ∷ counters) (inl none) = absurd (omega arith)

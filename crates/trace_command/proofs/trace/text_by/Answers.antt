@@ -4,7 +4,7 @@ use Rattle.step_kinds.specs.AnsweredSteps.{AnsweredStep}
 use Rattle.ledger_model.specs.PlanLog.{answered_steps, log_of_plan}
 use Rattle.trace_command.specs.Lines.{step_lines}
 use Rattle.trace_command.specs.Writes.{writes_start}
-use Rattle.trace_command.specs.Head.{head}
+use Rattle.trace_command.specs.Head.{trace_head}
 use Rattle.trace_command.specs.Trace.{Traced}
 use Rattle.trace_command.proofs.Traces.{lines_kept}
 use Rattle.trace_command.proofs.WholeTraces.{trace_is}
@@ -27,8 +27,8 @@ returns c =
     let plan = plan_in script in
     let made = c.in_ok-make_steps.ensures.kept plan [] c.requires.made in
     let answered : List Answered → List AnsweredStep = answered_steps script.steps in
-    let text : c.lines.inside.text.items ≡ head script.declared.pairs ++ step_lines script.declared (writes_start script.declared.pairs) (answered (log_of_plan plan)) =
+    let text : c.lines.inside.text.items ≡ trace_head script.declared.pairs ++ step_lines script.declared (writes_start script.declared.pairs) (answered (log_of_plan plan)) =
     ap (λ (traced : Traced). traced.text) (c.lines.view_is ∙ made.kept) ∙ lines_kept (answered made.answers) c.in_ok-lines.lines
     ∙ ap (λ (start : Traced). start.text ++ step_lines start.plan start.writes (answered made.answers)) c.in_ok-lines.ensures
-    ∙ ap (λ (log : List Answered). head script.declared.pairs ++ step_lines script.declared (writes_start script.declared.pairs) (answered log)) (sym made.log) in
+    ∙ ap (λ (log : List Answered). trace_head script.declared.pairs ++ step_lines script.declared (writes_start script.declared.pairs) (answered log)) (sym made.log) in
     trace_is script.declared script.steps _ _ _ _ text refl refl c.in_ok-push_counts.ensures

@@ -1,5 +1,5 @@
 use Rattle.std.proofs.Common.{refl, ◌∙◌, ap}
-use Rattle.command_reply.specs.Output.{done}
+use Rattle.command_reply.specs.Output.{reply_done}
 use Rattle.cluster_run.proofs.Facade.{known_pairs}
 use Rattle.cluster_run.specs.stream.Streams.{StreamShown, stream_shown, streams_shown}
 use Rattle.traffic_command.proofs.WholeStreams.{resumed_on_steps, whole}
@@ -17,7 +17,7 @@ returns g c =
     record {
       streams = streams;
       answered = refl;
-      text = c.done.ensures ∙ ap done c.in_ok-text.ensures;
+      text = c.done.ensures ∙ ap reply_done c.in_ok-text.ensures;
       whole = whole script.declared streams proofs c.in_ok-streams.ensures;
       resumed = resumed;
     }

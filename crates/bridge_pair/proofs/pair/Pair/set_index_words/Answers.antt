@@ -7,7 +7,7 @@ use Rattle.pair_model.specs.Sizes.{layout_of}
 use Rattle.plan_numbers.specs.Memories.{WindowsFit, memory_size}
 use Rattle.ring_geometry.specs.Geometry.{entries_of}
 use Rattle.step_kinds.specs.declared.plan.PairPlan.{PairPlan}
-use Rattle.bridge_pair.specs.Bridge.{Bridge, bytes_of, pages_of, with_bytes}
+use Rattle.bridge_pair.specs.Bridge.{Bridge, bridge_bytes_of, pages_of, with_bytes}
 use Rattle.bridge_pair.proofs.IndexWords.{at_word, one_before}
 use Rattle.bridge_pair.proofs.Sides.{bytes_again, pages_of-with_bytes}
 use Rattle.bridge_pair.proofs.pair.Pair.set_index_words.Goals as goal
@@ -59,7 +59,7 @@ loop-queue-preserved c =
     let left = c.side_plan-queues.result.queues - c.loop-queue.queue in
     let stored =
     one_before c.args.self.now.plan c.args.side queue c.loop-queue.queue left (c.side_plan-queues.result.queues - queue) c.index_word_at-at.result c.entries-last.result
-    (bytes_of c.args.self.now c.args.side) at entries (omega (arith, c.loop-queue-test.true)) (omega (arith, c.loop-queue-test.true, c.loop-queue.auto.queue)) in
+    (bridge_bytes_of c.args.self.now c.args.side) at entries (omega (arith, c.loop-queue-test.true)) (omega (arith, c.loop-queue-test.true, c.loop-queue.auto.queue)) in
     record {
       all = c.loop-queue.invariant.all;
       so_far =

@@ -3,7 +3,7 @@ use Rattle.step_kinds.specs.declared.plan.SwitchPlan.{SwitchPlan}
 use Rattle.pair_model.specs.DeclaredPlans.{IsDeclared}
 use Rattle.pair_model.specs.Switches.{AreSwitches}
 use Rattle.fabric_core.specs.Fabric.{FabricState, plan_kept}
-use Rattle.learn_switch.specs.Frames.{Bytes}
+use Rattle.learn_switch.specs.Frames.{SwitchBytes}
 use Rattle.cluster_core.specs.Cluster.{plan_held}
 use Rattle.cluster_core.specs.Clusters.{HavePorts}
 use Rattle.cluster_core.proofs.cluster.Cluster.copy_of.Goals as goal
@@ -18,5 +18,5 @@ invariant_of-result c =
       switches = subst (λ (fabric : FabricState). held fabric c.in_ok-copies.field-0.items) (sym c.in_ok-copy_of.ensures)
           (subst (λ (plans : List SwitchPlan). held c.self.inside.fabric plans) (sym plans) c.self.invariant.switches);
       ports = subst (λ (plans : List SwitchPlan). HavePorts plans c.in_ok-switch_copies.field-0.items) (sym plans)
-          (subst (λ (switches : List Bytes). HavePorts c.self.inside.plans.items switches) (sym switches) c.self.invariant.ports);
+          (subst (λ (switches : List SwitchBytes). HavePorts c.self.inside.plans.items switches) (sym switches) c.self.invariant.ports);
     }

@@ -3,7 +3,7 @@ use Rattle.bridge_pair.specs.Bridge.{flight_of}
 use Rattle.fabric_core.specs.Fabric.{pair_of}
 use Rattle.cluster_core.specs.Cluster.{ClusterState}
 use Rattle.cluster_core.specs.Clusters.{cluster_seen}
-use Rattle.cluster_core.specs.InFlight.{LandsNoneFrom}
+use Rattle.cluster_core.specs.InFlight.{ClusterLandsNoneFrom}
 use Rattle.cluster_core.proofs.SameClusters.{lands_none}
 use Rattle.cluster_core.proofs.cluster.Cluster.in_flight.Goals as goal
 
@@ -13,5 +13,5 @@ returns-clause-count c =
 
 pub returns-clause-beyond : goal.returns-clause-beyond
 returns-clause-beyond c =
-    subst (λ (cluster : ClusterState). LandsNoneFrom cluster c.args.pair c.args.side c.in_flight.result) c.self.view_is
+    subst (λ (cluster : ClusterState). ClusterLandsNoneFrom cluster c.args.pair c.args.side c.in_flight.result) c.self.view_is
     (lands_none (cluster_seen c.self.inside) c.args.pair c.args.side c.in_flight.result c.in_flight.ensures.beyond)

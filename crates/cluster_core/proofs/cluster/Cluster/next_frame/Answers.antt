@@ -1,7 +1,7 @@
 use Rattle.std.proofs.Common.{◌≡◌, ◌<◌, true, List, length, refl, ap, sym, subst, arith}
 use Rattle.step_kinds.specs.declared.plan.SwitchPlan.{SwitchPlan}
 use Rattle.pair_model.specs.Switch.{list_of}
-use Rattle.learn_switch.specs.Frames.{Bytes}
+use Rattle.learn_switch.specs.Frames.{SwitchBytes}
 use Rattle.cluster_core.specs.Cluster.{ClusterState}
 use Rattle.cluster_core.specs.Clusters.{cluster_seen}
 use Rattle.cluster_core.specs.Moves.{HasWaiting, does_send, sending_in}
@@ -39,7 +39,7 @@ returns-clause-fits c =
       place = subst (λ (cluster : ClusterState). IsPortAmong cluster.plans c.in-Some.place.switch c.in-Some.place.port) c.self.view_is among;
       waits =
           subst (λ (cluster : ClusterState). HasWaiting cluster c.in-Some.place) c.self.view_is
-          (subst (λ (switch : Bytes). 0 < length (list_of switch.waiting c.in-Some.place.port)) found waits);
+          (subst (λ (switch : SwitchBytes). 0 < length (list_of switch.waiting c.in-Some.place.port)) found waits);
     }
 
 pub returns-in_err-copy_of-clause-wants : goal.returns-in_err-copy_of-clause-wants

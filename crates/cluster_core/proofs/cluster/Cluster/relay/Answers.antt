@@ -1,7 +1,7 @@
 use Rattle.std.proofs.Common.{◌≡◌, ◌∙◌, true, sym, ap, subst, arith, set}
 use Rattle.ledger_model.specs.Network.{answer_of}
 use Rattle.ledger_model.specs.Ports.{Port}
-use Rattle.learn_switch.specs.Frames.{Bytes, bytes_after_relay, bytes_relay_answer, goes_on}
+use Rattle.learn_switch.specs.Frames.{SwitchBytes, bytes_after_relay, bytes_relay_answer, goes_on}
 use Rattle.cluster_core.specs.Cluster.{ClusterState}
 use Rattle.cluster_core.specs.Moves.{relay_answer_in, relay_goes_on, relayed_in}
 use Rattle.cluster_core.specs.Parts.{IsPortAmong}
@@ -34,7 +34,7 @@ returns-clause-answer c =
     let port : Port = record { switch = c.args.switch; place = c.args.port } in
     let among = subst (λ (cluster : ClusterState). IsPortAmong cluster.plans c.args.switch c.args.port) (sym c.self.view_is) c.requires in
     let found = switch_found c.self.inside.plans.items c.self.inside.switches.items c.args.switch c.args.port c.index_mut.result.now c.self.invariant.ports among c.index_mut.ensures.value in
-    c.relay_answer.ensures ∙ ap answer_of c.in_ok-relayed.ensures.answer ∙ ap (λ (switch : Bytes). answer_of (bytes_relay_answer switch c.args.port)) found
+    c.relay_answer.ensures ∙ ap answer_of c.in_ok-relayed.ensures.answer ∙ ap (λ (switch : SwitchBytes). answer_of (bytes_relay_answer switch c.args.port)) found
     ∙ ap (λ (cluster : ClusterState). relay_answer_in cluster port) c.self.view_is
 
 pub returns-clause-after : goal.returns-clause-after
@@ -42,8 +42,8 @@ returns-clause-after c =
     let port : Port = record { switch = c.args.switch; place = c.args.port } in
     let among = subst (λ (cluster : ClusterState). IsPortAmong cluster.plans c.args.switch c.args.port) (sym c.self.view_is) c.requires in
     let found = switch_found c.self.inside.plans.items c.self.inside.switches.items c.args.switch c.args.port c.index_mut.result.now c.self.invariant.ports among c.index_mut.ensures.value in
-    ap (λ (switch : Bytes). record { fabric = c.self.inside.fabric; plans = c.self.inside.plans.items; switches = set c.self.inside.switches.items c.args.switch switch })
-    (c.in_ok-relayed.ensures.after ∙ ap (λ (switch : Bytes). bytes_after_relay switch c.args.port) found)
+    ap (λ (switch : SwitchBytes). record { fabric = c.self.inside.fabric; plans = c.self.inside.plans.items; switches = set c.self.inside.switches.items c.args.switch switch })
+    (c.in_ok-relayed.ensures.after ∙ ap (λ (switch : SwitchBytes). bytes_after_relay switch c.args.port) found)
     ∙ ap (λ (cluster : ClusterState). relayed_in cluster port) c.self.view_is
 
 pub returns-in_err-relayed-clause-wants : goal.returns-in_err-relayed-clause-wants
@@ -52,5 +52,5 @@ returns-in_err-relayed-clause-wants c =
     let among = subst (λ (cluster : ClusterState). IsPortAmong cluster.plans c.args.switch c.args.port) (sym c.self.view_is) c.requires in
     let found = switch_found c.self.inside.plans.items c.self.inside.switches.items c.args.switch c.args.port c.index_mut.result.now c.self.invariant.ports among c.index_mut.ensures.value in
     let goes : relay_goes_on c.args.self.now port ≡ true =
-    sym (ap (λ (switch : Bytes). goes_on (bytes_relay_answer switch c.args.port)) found ∙ ap (λ (cluster : ClusterState). relay_goes_on cluster port) c.self.view_is) ∙ c.in_err-relayed.ensures.wants in
+    sym (ap (λ (switch : SwitchBytes). goes_on (bytes_relay_answer switch c.args.port)) found ∙ ap (λ (cluster : ClusterState). relay_goes_on cluster port) c.self.view_is) ∙ c.in_err-relayed.ensures.wants in
     where_err c.from_residual.result goes

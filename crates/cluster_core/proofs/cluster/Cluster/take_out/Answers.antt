@@ -1,6 +1,6 @@
 use Rattle.std.proofs.Common.{◌<◌, length, sym, subst, arith}
 use Rattle.pair_model.specs.Switch.{list_of}
-use Rattle.learn_switch.specs.Frames.{Bytes}
+use Rattle.learn_switch.specs.Frames.{SwitchBytes}
 use Rattle.cluster_core.specs.Cluster.{ClusterState}
 use Rattle.cluster_core.specs.Moves.{HasWaiting}
 use Rattle.cluster_core.specs.Parts.{IsPortAmong}
@@ -22,7 +22,7 @@ pub sent-requires-clause-waits : goal.sent-requires-clause-waits
 sent-requires-clause-waits c =
     let among = subst (λ (cluster : ClusterState). IsPortAmong cluster.plans c.args.place.switch c.args.place.port) (sym c.self.view_is) c.requires.place in
     let found = switch_found c.self.inside.plans.items c.self.inside.switches.items c.args.place.switch c.args.place.port c.index_mut.result.now c.self.invariant.ports among c.index_mut.ensures.value in
-    subst (λ (switch : Bytes). 0 < length (list_of switch.waiting c.args.place.port)) (sym found) (subst (λ (cluster : ClusterState). HasWaiting cluster c.args.place) (sym c.self.view_is) c.requires.waits)
+    subst (λ (switch : SwitchBytes). 0 < length (list_of switch.waiting c.args.place.port)) (sym found) (subst (λ (cluster : ClusterState). HasWaiting cluster c.args.place) (sym c.self.view_is) c.requires.waits)
 
 pub invariant_of-self : goal.invariant_of-self
 invariant_of-self c =

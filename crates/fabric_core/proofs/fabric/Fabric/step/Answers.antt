@@ -8,7 +8,7 @@ use Rattle.pair_model.specs.DeclaredPlans.{IsPermitted}
 use Rattle.fabric_rule.specs.Parts.{PairState}
 use Rattle.fabric_core.specs.Fabric.{FabricState, no_state, pair_of, plan_kept}
 use Rattle.fabric_core.specs.Fabrics.{IsFabric, fabric_seen}
-use Rattle.fabric_core.specs.Parts.{Agrees, CanMake}
+use Rattle.fabric_core.specs.Parts.{BridgeAgrees, CanMake}
 use Rattle.fabric_core.specs.FabricStep.{HasStepped}
 use Rattle.fabric_core.specs.StepCalls.{HasMadeStep}
 use Rattle.fabric_core.specs.declared.fabric.Fabric.TheInside.{Inside}
@@ -36,7 +36,7 @@ pub make-requires-clause-agrees : goal.make-requires-clause-agrees
 make-requires-clause-agrees c =
     let kept = fabric_seen c.self.inside in
     let may : IsPermitted (plan_kept kept) c.args.step.now = subst (λ fabric. IsPermitted (plan_kept fabric) c.args.step.now) (sym c.self.view_is) c.requires in
-    subst (λ (pair : PairState). Agrees pair.bridge) (sym (found kept c.args.step.now c.subject-k.result c.index_mut-pair.result.now may c.subject-k.ensures c.index_mut-pair.ensures.value))
+    subst (λ (pair : PairState). BridgeAgrees pair.bridge) (sym (found kept c.args.step.now c.subject-k.result c.index_mut-pair.result.now may c.subject-k.ensures c.index_mut-pair.ensures.value))
     (pair_agrees kept (subject_of c.args.step.now) (some c.self.inside c.self.invariant) (among_pairs kept c.args.step.now c.index_mut-pair.result.now may))
 
 pub make-requires-clause-can : goal.make-requires-clause-can

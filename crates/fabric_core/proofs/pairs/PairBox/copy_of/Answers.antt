@@ -2,16 +2,16 @@ use Rattle.std.proofs.Common.{◌≡◌, ◌∙◌, List, ap, sym, subst}
 use Rattle.bridge_pair.specs.Bridge.{Bridge}
 use Rattle.fabric_rule.specs.Parts.{PairState, QueuePart}
 use Rattle.fabric_core.specs.PairBoxes.{pair_seen}
-use Rattle.fabric_core.specs.Parts.{IsWhole}
+use Rattle.fabric_core.specs.Parts.{IsPairWhole}
 use Rattle.fabric_core.proofs.pairs.PairBox.copy_of.Goals as goal
 
 -- a pair is whole that has the parts of one that is
-whole_by_parts : (pair copy : PairState) → copy.bridge ≡ pair.bridge → copy.queues.a ≡ pair.queues.a → copy.queues.b ≡ pair.queues.b → IsWhole pair → IsWhole copy
+whole_by_parts : (pair copy : PairState) → copy.bridge ≡ pair.bridge → copy.queues.a ≡ pair.queues.a → copy.queues.b ≡ pair.queues.b → IsPairWhole pair → IsPairWhole copy
 whole_by_parts pair copy bridge a b is =
     let same : copy ≡ pair = ap (λ (bridge : Bridge). record { bridge = bridge; queues = copy.queues }) bridge
     ∙ ap (λ (a : List QueuePart). record { bridge = pair.bridge; queues = record { a = a; b = copy.queues.b } }) a
     ∙ ap (λ (b : List QueuePart). record { bridge = pair.bridge; queues = record { a = pair.queues.a; b = b } }) b in
-    subst IsWhole (sym same) is
+    subst IsPairWhole (sym same) is
 
 pub invariant_of-result : goal.invariant_of-result
 invariant_of-result c =

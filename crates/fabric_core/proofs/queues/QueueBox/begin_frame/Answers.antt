@@ -4,7 +4,7 @@ use Rattle.lane_model.specs.Tests.{is_copying}
 use Rattle.pair_model.specs.Link.{Link}
 use Rattle.bridge_pair.specs.Bridge.{Bridge}
 use Rattle.frame_ring.specs.Port.{Receiving}
-use Rattle.queue_pair.specs.Gates.{after_begin, begin_answer}
+use Rattle.queue_pair.specs.Gates.{queue_after_begin, begin_answer}
 use Rattle.queue_pair.specs.Queue.{QueueState}
 use Rattle.fabric_rule.specs.Answers.{of_begin}
 use Rattle.fabric_rule.specs.Parts.{QueuePart, one_more}
@@ -39,7 +39,7 @@ pub returns : goal.returns
 returns c =
     let inside = c.self.inside in
     let bridge = c.args.pair.now in
-    let queue = after_begin inside.queue bridge c.args.frame in
+    let queue = queue_after_begin inside.queue bridge c.args.frame in
     let part = part_with queue inside.flow inside.counters inside.accepted.counts inside.delivered.counts in
     let answer = of_begin (begin_answer inside.queue bridge (length c.args.frame)) in
     let begins : IsBegun answer = subst (λ (part : QueuePart). IsBegun (begin_turn part bridge c.args.frame).answer) (sym c.self.view_is) c.requires.begins in

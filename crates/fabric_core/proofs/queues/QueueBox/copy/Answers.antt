@@ -3,7 +3,7 @@ use Rattle.step_kinds.specs.declared.lanes.LaneCopy.{LaneCopy}
 use Rattle.lane_model.specs.Tests.{is_copying}
 use Rattle.pair_model.specs.Device.{count_delivered}
 use Rattle.pair_model.specs.Link.{Link}
-use Rattle.frame_ring.specs.Calls.{after_copy}
+use Rattle.frame_ring.specs.Calls.{port_after_copy}
 use Rattle.frame_ring.specs.Port.{PortState}
 use Rattle.frame_ring.specs.PortView.{HasPagesIn}
 use Rattle.queue_pair.specs.Queue.{QueueState, with_port}
@@ -40,7 +40,7 @@ returns c =
     let inside = c.self.inside in
     let old = inside.queue.port in
     let bridge = c.args.pair.now in
-    let queue = with_port inside.queue (after_copy old bridge) in
+    let queue = with_port inside.queue (port_after_copy old bridge) in
     let part = part_with queue inside.flow inside.counters inside.accepted.counts inside.delivered.counts in
     let left : c.copy-copy.new.self ≡ queue = c.copy-copy.ensures.rest ∙ ap (with_port inside.queue) c.copy-copy.ensures.port.after in
     let copied : c.match-copy.self.queue ≡ queue = elim c.match-copy.branch [
@@ -62,7 +62,7 @@ returns c =
           ∙ ap (λ (copy : LaneCopy). delivered_where_whole copy bridge.link.session part) c.copy-copy.ensures.port.answer
     ] in
     let had : HasPagesIn old bridge = subst (λ (part : QueuePart). HasPagesIn part.queue.port bridge) (sym c.self.view_is) c.requires.pages in
-    let ready : HasPagesIn (after_copy old bridge) bridge = subst (λ (port : PortState). HasPagesIn port bridge) c.copy-copy.ensures.port.after (c.copy-copy.ensures.port.ready had) in
+    let ready : HasPagesIn (port_after_copy old bridge) bridge = subst (λ (port : PortState). HasPagesIn port bridge) c.copy-copy.ensures.port.after (c.copy-copy.ensures.port.ready had) in
     record {
       answer = c.copy_answer.ensures ∙ ap of_copy c.copy-copy.ensures.port.answer ∙ ap (λ (part : QueuePart). (copy_turn part bridge).answer) c.self.view_is;
       after = counted ∙ ap (λ (part : QueuePart). (copy_turn part bridge).part) c.self.view_is;

@@ -9,7 +9,7 @@ use Rattle.bridge_pair.proofs.Facade.{grows_nothing}
 use Rattle.posted_queue.specs.Flight.{promised}
 use Rattle.frame_ring.specs.Calls.{down_begun}
 use Rattle.frame_ring.specs.Outgoing.{Outgoing}
-use Rattle.frame_ring.specs.Port.{PortState, Sending, is_busy, unused_of, with_sending, writes_left}
+use Rattle.frame_ring.specs.Port.{PortState, Sending, is_port_busy, unused_of, with_sending, writes_left}
 use Rattle.frame_ring.specs.PortCalls.{IsGrown}
 use Rattle.frame_ring.specs.Ports.{port_seen}
 use Rattle.frame_ring.specs.PortView.{HasPagesIn, TouchesLeft, with_room}
@@ -25,7 +25,7 @@ begins : (c : After-down)
     → Begins (port_seen c.self.inside) (down_begun (port_seen c.self.inside)).sending (GoesDown ∷ []) c.args.pair.now c.promise_entry.new.pair c.promise.new.self 4
 begins c =
     let port = port_seen c.self.inside in
-    let idle : is_busy port.sending ≡ false = ap (λ (port : PortState). is_busy port.sending) c.self.view_is ∙ c.requires.idle in
+    let idle : is_port_busy port.sending ≡ false = ap (λ (port : PortState). is_port_busy port.sending) c.self.view_is ∙ c.requires.idle in
     let room : c.promise.new.self ≡ with_room c.promise_entry.new.pair port.side 4 = c.in_ok-promise.ensures.ok ∙ ap (λ (side : Side). with_flight c.promise_entry.new.pair side (promised (flight_of c.promise_entry.new.pair side) 4)) c.side.ensures.value in
     down_begins port c.args.pair.now c.promise_entry.new.pair c.promise.new.self c.begun-from.result idle c.begun-from.ensures.value c.promise_entry.ensures.rest c.promise_entry.ensures.pages c.in_ok-promise_entry.ensures.ok room
 
@@ -34,7 +34,7 @@ sent c = down_sent (port_seen c.self.inside) c.self.inside.sender c.down.new.sel
 
 pub down-requires-clause-free : goal.down-requires-clause-free
 down-requires-clause-free c =
-    let idle : is_busy c.self.inside.sender.sending ≡ false = ap (λ (port : PortState). is_busy port.sending) c.self.view_is ∙ c.requires.idle in
+    let idle : is_port_busy c.self.inside.sender.sending ≡ false = ap (λ (port : PortState). is_port_busy port.sending) c.self.view_is ∙ c.requires.idle in
     ap not idle
 
 pub down-requires-clause-numbers : goal.down-requires-clause-numbers
@@ -70,7 +70,7 @@ returns-in_err-promise_entry-clause-promises c =
     let port = port_seen c.self.inside in
     let pair = c.args.pair.now in
     let new = c.promise_entry.new.pair in
-    let idle : is_busy port.sending ≡ false = ap (λ (port : PortState). is_busy port.sending) c.self.view_is ∙ c.requires.idle in
+    let idle : is_port_busy port.sending ≡ false = ap (λ (port : PortState). is_port_busy port.sending) c.self.view_is ∙ c.requires.idle in
     record {
       rest = subst (λ (seen : PortState). IsGrown seen seen pair new) c.self.view_is (rest_kept pair new new port.side (unused_of port - unused_of port) c.promise_entry.ensures.rest refl (omega arith));
       pages =
@@ -84,7 +84,7 @@ returns-in_err-promise-clause-promises c =
     let port = port_seen c.self.inside in
     let pair = c.args.pair.now in
     let new = c.promise.new.self in
-    let idle : is_busy port.sending ≡ false = ap (λ (port : PortState). is_busy port.sending) c.self.view_is ∙ c.requires.idle in
+    let idle : is_port_busy port.sending ≡ false = ap (λ (port : PortState). is_port_busy port.sending) c.self.view_is ∙ c.requires.idle in
     let same : pages_of c.promise_entry.new.pair (other_side port.side) ≡ pages_of new (other_side port.side) = sym (ap (λ (bridge : Bridge). pages_of bridge (other_side port.side)) c.in_err-promise.ensures.err) in
     record {
       rest = subst (λ (seen : PortState). IsGrown seen seen pair new) c.self.view_is (rest_kept pair c.promise_entry.new.pair new port.side (unused_of port - unused_of port) c.promise_entry.ensures.rest c.in_err-promise.ensures.err (omega arith));

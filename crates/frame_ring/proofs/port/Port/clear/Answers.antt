@@ -8,7 +8,7 @@ use Rattle.step_kinds.specs.Sides.{other_side}
 use Rattle.bridge_pair.specs.Bridge.{Bridge, pages_of}
 use Rattle.frame_ring.specs.Port.{Receiving, with_receiving}
 use Rattle.frame_ring.specs.Ports.{port_seen}
-use Rattle.frame_ring.specs.PortView.{HasPages}
+use Rattle.frame_ring.specs.PortView.{HasPortPages}
 use Rattle.frame_ring.proofs.Ready.{cleared_ready, copied_flags, pages_seen, pages_with_bytes}
 use Rattle.frame_ring.proofs.port.Port.clear.Goals as goal
 
@@ -30,6 +30,6 @@ returns c =
       after = first_of (search rules, grind (arith, common_steps));
       pair = first_of (search rules, grind (arith, common_steps));
       ready =
-          subst (λ (receiving : Receiving). HasPages (with_receiving port receiving) (pages_of c.clear_flags.new.pair port.side) (pages_of c.clear_flags.new.pair (other_side port.side))) (sym c.cleared.ensures)
+          subst (λ (receiving : Receiving). HasPortPages (with_receiving port receiving) (pages_of c.clear_flags.new.pair port.side) (pages_of c.clear_flags.new.pair (other_side port.side))) (sym c.cleared.ensures)
           (rw (own, peer) (cleared_ready port _ _ (ap is_copied (sym c.phase.ensures ∙ c.in-Copied.is)) (pages_seen port c.args.self.now pair c.self.view_is c.requires.pages)));
     }

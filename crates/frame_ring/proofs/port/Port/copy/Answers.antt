@@ -5,7 +5,7 @@ use Rattle.step_kinds.specs.Sides.{other_side}
 use Rattle.bridge_pair.specs.Bridge.{pages_of}
 use Rattle.frame_ring.specs.Port.{Receiving, with_receiving}
 use Rattle.frame_ring.specs.Ports.{port_seen}
-use Rattle.frame_ring.specs.PortView.{HasPages}
+use Rattle.frame_ring.specs.PortView.{HasPortPages}
 use Rattle.frame_ring.proofs.Ready.{copied_ready, pages_seen}
 use Rattle.frame_ring.proofs.port.Port.copy.Goals as goal
 
@@ -17,6 +17,6 @@ returns c =
       answer = first_of (search rules, grind (arith, common_steps));
       after = first_of (search rules, grind (arith, common_steps));
       ready = λ there.
-          subst (λ (receiving : Receiving). HasPages (with_receiving port receiving) (pages_of pair port.side) (pages_of pair (other_side port.side))) (sym c.copy.ensures.after)
+          subst (λ (receiving : Receiving). HasPortPages (with_receiving port receiving) (pages_of pair port.side) (pages_of pair (other_side port.side))) (sym c.copy.ensures.after)
           (copied_ready port _ _ _ (ap is_copying (sym c.phase.ensures ∙ c.in-Copying.is)) (pages_seen port c.args.self.now pair c.self.view_is there));
     }

@@ -9,11 +9,11 @@ use Rattle.step_kinds.specs.Limits.{most_frame_bytes}
 use Rattle.step_kinds.specs.Sides.{other_side}
 use Rattle.bridge_pair.specs.Bridge.{Bridge, pages_of}
 use Rattle.bridge_pair.proofs.Facade.{grows_nothing}
-use Rattle.frame_ring.specs.Calls.{FindsEntry, TouchedByFlags, TouchedByLook, after_look, found_seen, look_answer, look_found}
+use Rattle.frame_ring.specs.Calls.{PortFindsEntry, TouchedByFlags, TouchedByLook, port_after_look, found_seen, port_look_answer, look_found}
 use Rattle.frame_ring.specs.Port.{PortState, unused_of, with_receiving}
 use Rattle.frame_ring.specs.PortCalls.{HasPromisedBoth}
 use Rattle.frame_ring.specs.Ports.{port_seen}
-use Rattle.frame_ring.specs.Rings.{header_of}
+use Rattle.frame_ring.specs.Rings.{port_header_of}
 use Rattle.frame_ring.specs.PortView.{bytes_seen}
 use Rattle.frame_ring.specs.declared.RingLook.{RingLook}
 use Rattle.frame_ring.specs.declared.RingLook.TheVariants.{Ready}
@@ -32,7 +32,7 @@ idle : (c : After-sight) → is_idle (port_seen c.self.inside).receiving.phase �
 idle c = ap is_idle (sym c.phase.ensures ∙ c.in-Idle.is)
 
 header : (c : After-sight)
-    → header_of c.header-header.result
+    → port_header_of c.header-header.result
     ≡ header_in (port_seen c.self.inside).plan (bytes_seen c.args.pair.now) (port_seen c.self.inside).side (port_seen c.self.inside).queue (port_seen c.self.inside).receiving.got
 header c =
     let port = port_seen c.self.inside in
@@ -54,11 +54,11 @@ stand_at-requires-clause-short c =
     subst (λ (port : PortState). c.in-Ready.len ≤ max_payload_of (layout_to port.plan port.side port.queue)) c.self.view_is short
 
 -- what the header says is an entry
-found : (c : After-sight) (number len : ℕ) → c.sight.result ≡ Ready number len → FindsEntry c.args.self.now c.args.pair.now
+found : (c : After-sight) (number len : ℕ) → c.sight.result ≡ Ready number len → PortFindsEntry c.args.self.now c.args.pair.now
 found c number len is =
     let port = port_seen c.self.inside in
-    let at : FindsEntry port c.args.pair.now = finds port c.args.pair.now (found_seen port c.args.pair.now) number len (idle c) refl (ready c number len is) in
-    subst (λ (port : PortState). FindsEntry port c.args.pair.now) c.self.view_is at
+    let at : PortFindsEntry port c.args.pair.now = finds port c.args.pair.now (found_seen port c.args.pair.now) number len (idle c) refl (ready c number len is) in
+    subst (λ (port : PortState). PortFindsEntry port c.args.pair.now) c.self.view_is at
 
 -- a look that finds nothing promises nothing
 no_promises : {E : Type 0} {look : RingLook} (port : PortState) (bridge : Bridge) → HasPromisedBoth {E = E} (TouchedByLook port bridge) (TouchedByFlags port bridge) port port bridge bridge (Ok look)
@@ -89,8 +89,8 @@ returns-in_default-sight c =
     let bridge = c.args.pair.now in
     let here = (goal.at.returns-in_default-sight c).After-sight in
     record {
-      answer = subst (λ (port : PortState). c.sight.result ≡ look_answer port bridge) c.self.view_is (look_is (port_seen c.self.inside) bridge c.sight.result (idle here) (told here));
-      after = subst (λ (port : PortState). port ≡ after_look port bridge) c.self.view_is (stays_at (port_seen c.self.inside) bridge c.sight.result (idle here) (told here) c.in_default-sight.not-Ready);
+      answer = subst (λ (port : PortState). c.sight.result ≡ port_look_answer port bridge) c.self.view_is (look_is (port_seen c.self.inside) bridge c.sight.result (idle here) (told here));
+      after = subst (λ (port : PortState). port ≡ port_after_look port bridge) c.self.view_is (stays_at (port_seen c.self.inside) bridge c.sight.result (idle here) (told here) c.in_default-sight.not-Ready);
       err = tt;
       wants = tt;
       promises = no_promises port bridge;
@@ -104,11 +104,11 @@ returns-in_ok-stand_at-in-Ready c =
     let at = found here c.in-Ready.number c.in-Ready.len c.in-Ready.is in
     record {
       answer =
-          subst (λ (port : PortState). Ready c.in-Ready.number c.in-Ready.len ≡ look_answer port c.args.pair.now) c.self.view_is
+          subst (λ (port : PortState). Ready c.in-Ready.number c.in-Ready.len ≡ port_look_answer port c.args.pair.now) c.self.view_is
           (look_is (port_seen c.self.inside) c.args.pair.now (Ready c.in-Ready.number c.in-Ready.len) (idle here) says);
       after =
           c.in_ok-stand_at-in-Ready.ensures.after
-          ∙ subst (λ (port : PortState). with_receiving port (record port.receiving { phase = Copying; part = 0; len = c.in-Ready.len; left = c.header-header.result.left }) ≡ after_look port c.args.pair.now) c.self.view_is
+          ∙ subst (λ (port : PortState). with_receiving port (record port.receiving { phase = Copying; part = 0; len = c.in-Ready.len; left = c.header-header.result.left }) ≡ port_after_look port c.args.pair.now) c.self.view_is
           (stands_at (port_seen c.self.inside) c.args.pair.now c.in-Ready.number c.in-Ready.len c.header-header.result.left (idle here) says left);
       err = tt;
       wants = tt;

@@ -5,7 +5,7 @@ use Rattle.host_memory.specs.Memory.{ArePromised, Touches}
 use Rattle.step_kinds.specs.declared.names.Side.{Side}
 use Rattle.step_kinds.specs.declared.plan.PairPlan.{PairPlan}
 use Rattle.plan_numbers.specs.Memories.{memory_size}
-use Rattle.bridge_pair.specs.Bridge.{bytes_of, pages_of, with_pages}
+use Rattle.bridge_pair.specs.Bridge.{bridge_bytes_of, pages_of, with_pages}
 use Rattle.bridge_pair.specs.Pages.{PagesGrow}
 use Rattle.frame_ring.proofs.EntryPages.{ok_map}
 use Rattle.frame_ring.proofs.rings.QueueRings.promise_flags.Goals as goal
@@ -13,7 +13,7 @@ use Rattle.frame_ring.proofs.rings.QueueRings.promise_flags.Goals as goal
 pub promise_range-requires : goal.promise_range-requires
 promise_range-requires c =
     let rings = c.args.self.now in
-    let size : length (bytes_of c.args.pair.now c.side.result) ≡ memory_size rings.plan rings.side =
+    let size : length (bridge_bytes_of c.args.pair.now c.side.result) ≡ memory_size rings.plan rings.side =
     c.law.ensures.memories c.side.result ∙ ap (λ (plan : PairPlan). memory_size plan c.side.result) c.requires.plan ∙ ap (memory_size rings.plan) c.side.ensures.value in
     omega (arith, c.header_at.ensures.within, c.flags_offset.ensures.within, size)
 

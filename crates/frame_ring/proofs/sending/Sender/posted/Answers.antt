@@ -1,7 +1,7 @@
 use Rattle.std.proofs.Common.{◌≡◌, ◌∙◌, ◌-◌, ◌<◌, ◌≤◌, true, ap, subst, sym, arith, length}
 use Rattle.lane_model.specs.Tests.{is_empty_list}
 use Rattle.frame_ring.specs.Calls.{let_go, rest_of}
-use Rattle.frame_ring.specs.Outgoing.{IsSender, Outgoing, entries_under, entry_at, sender_seen, with_progress, writes_in}
+use Rattle.frame_ring.specs.Outgoing.{IsSender, Outgoing, entries_under, entry_at, sender_seen, with_progress, port_writes_in}
 use Rattle.frame_ring.specs.Port.{Sending}
 use Rattle.frame_ring.specs.declared.sending.Sender.TheInside.{Inside}
 use Rattle.frame_ring.proofs.Entries.{few_writes}
@@ -13,7 +13,7 @@ among_is kept law = omega (arith, law.pieces, law.piece)
 
 -- a write of the entry at hand is left
 more_is : (kept : Inside) (seen : Outgoing) → IsSender kept → sender_seen kept ≡ seen → (is_empty_list seen.sending.todo ≡ true → is_empty_list seen.sending.waiting ≡ true) → 0 < kept.left
-    → kept.next < writes_in (entry_at (entries_under kept.largest kept.frame) kept.piece)
+    → kept.next < port_writes_in (entry_at (entries_under kept.largest kept.frame) kept.piece)
 more_is kept seen law is moved some =
     one_is_left (entries_under kept.largest kept.frame) kept.queue (kept.begun - 1) kept.piece kept.next kept.left (among_is kept law) law.next law.left
     (subst (λ (outgoing : Outgoing). is_empty_list outgoing.sending.todo ≡ true → is_empty_list outgoing.sending.waiting ≡ true) (sym is) moved) some
@@ -28,7 +28,7 @@ seen_to_step kept seen sending is same = ap (with_progress (sender_seen kept)) s
 pub overflow_add-self : goal.overflow_add-self
 overflow_add-self c =
     let kept = c.self.inside in
-    let few : writes_in (entry_at (entries_under kept.largest kept.frame) kept.piece) ≤ 516 = few_writes kept.largest kept.frame kept.piece c.self.invariant.few (among_is kept c.self.invariant) in
+    let few : port_writes_in (entry_at (entries_under kept.largest kept.frame) kept.piece) ≤ 516 = few_writes kept.largest kept.frame kept.piece c.self.invariant.few (among_is kept c.self.invariant) in
     omega (arith, few, c.self.invariant.next)
 
 pub invariant_of-self-else-self-eq0-2 : goal.invariant_of-self-else-self-eq0-2

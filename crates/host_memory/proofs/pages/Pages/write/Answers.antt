@@ -3,7 +3,7 @@ use Rattle.std.proofs.Common.{◌≡◌, ℕ, ◌+◌, ◌-◌, ◌%◌, Option,
 use Rattle.std.specs.Box.{with_value}
 use Rattle.std.specs.Global.{Box}
 use Rattle.std.proofs.lemmas.List.{get_or-set_same}
-use Rattle.host_memory.specs.Pages.{page_at, with_bytes}
+use Rattle.host_memory.specs.Pages.{page_at, page_with_bytes}
 use Rattle.host_memory.proofs.MemoryPages.{middle_written}
 use Rattle.host_memory.proofs.Table.{group_within, page_in_set_group, page_read, page_within}
 use Rattle.host_memory.proofs.pages.Pages.write.Goals as goal
@@ -29,7 +29,7 @@ returns-in-Some-clause-page c =
     page_in_set_group groups _ number row
     ∙ get_or-set_same group.items (number % 512) _ None within
     ∙ ap (λ (bytes : List ℕ). Some (with_value c.in-Some.page bytes)) changed
-    ∙ sym (ap (option_map (with_bytes start c.args.bytes.now)) found)
+    ∙ sym (ap (option_map (page_with_bytes start c.args.bytes.now)) found)
 
 pub returns-in-Some-clause-whole : goal.returns-in-Some-clause-whole
 returns-in-Some-clause-whole c =

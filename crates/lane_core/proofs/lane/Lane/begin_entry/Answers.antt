@@ -9,7 +9,7 @@ use Rattle.lane_laws.specs.Laws.{IsOpen}
 use Rattle.lane_model.specs.Lane.{GoesDown, Lane, bytes_of, writes_of}
 use Rattle.lane_model.specs.Law.{HoldsRingLaw}
 use Rattle.lane_laws.proofs.Facade.{begin_keeps}
-use Rattle.lane_core.specs.Calls.{LaneValue, down_answer, with_lane}
+use Rattle.lane_core.specs.Calls.{LaneValue, core_down_answer, core_with_lane}
 use Rattle.lane_core.specs.Parts.{entry_seen}
 use Rattle.lane_core.specs.LaneView.{Buffers, lane_seen, value_seen}
 use Rattle.lane_core.specs.declared.entry.Entry.{Entry}
@@ -55,7 +55,7 @@ returns-then-not-is_empty c =
     let some : eqb old.todo.len 0 ≡ false = sym c.is_empty.ensures ∙ c.if-not-is_empty.true in
     let len : old.todo.len ≡ length old.todo.items = omega arith in
     record {
-      answer = subst (λ (value : LaneValue). Busy ≡ down_answer value.lane) c.self.view_is (sym (answers_busy (lane_seen old) old.todo.len len some));
+      answer = subst (λ (value : LaneValue). Busy ≡ core_down_answer value.lane) c.self.view_is (sym (answers_busy (lane_seen old) old.todo.len len some));
       after = refl;
       err = tt;
       wants = tt;
@@ -71,7 +71,7 @@ returns-then-free_between-eq0 c =
     let free = free_seen old c.len-number.result c.position_of-head.result c.free_between.result begun c.position_of-head.ensures.value c.free_between.ensures in
     let answer = answers_no_room (lane_seen old) c.position_of-head.result none (c.position_of-head.ensures.value ∙ ap (λ n. n % old.entries) (begun ∙ sym count)) (sym free ∙ c.if-free_between-eq0.true) in
     record {
-      answer = subst (λ (value : LaneValue). NoRoom c.position_of-head.result old.index_word ≡ down_answer value.lane) c.self.view_is (sym answer);
+      answer = subst (λ (value : LaneValue). NoRoom c.position_of-head.result old.index_word ≡ core_down_answer value.lane) c.self.view_is (sym answer);
       after = refl;
       err = tt;
       wants = tt;
@@ -104,8 +104,8 @@ returns-in_err-make_room c =
     record {
       answer = IfOk-from_err residual.result _ residual.ensures.0;
       after = IfOk-from_err residual.result _ residual.ensures.0;
-      err = on_err residual.result (ap (λ (lane : Lane). with_lane (value_seen old) lane) same ∙ c.self.view_is);
-      wants = on_err residual.result (subst (λ (value : LaneValue). down_answer value.lane ≡ Began (length value.lane.sent)) c.self.view_is answer);
+      err = on_err residual.result (ap (λ (lane : Lane). core_with_lane (value_seen old) lane) same ∙ c.self.view_is);
+      wants = on_err residual.result (subst (λ (value : LaneValue). core_down_answer value.lane ≡ Began (length value.lane.sent)) c.self.view_is answer);
       law = (invariant_of-self c).law;
     }
 
@@ -117,7 +117,7 @@ returns-clause-answer c =
     let none : old.todo.items ≡ [] = nil_from_length old.todo.items (omega (arith, eqb-true _ _ (sym c.is_empty.ensures ∙ c.if-not-is_empty.false))) in
     let free = free_seen old c.len-number.result c.position_of-head.result c.free_between.result begun c.position_of-head.ensures.value c.free_between.ensures in
     let answer = answers_begun (lane_seen old) c.len-number.result none (begun ∙ sym count) (λ full. c.if-free_between-eq0.false (free ∙ full)) in
-    subst (λ (value : LaneValue). Began c.len-number.result ≡ down_answer value.lane) c.self.view_is (sym answer)
+    subst (λ (value : LaneValue). Began c.len-number.result ≡ core_down_answer value.lane) c.self.view_is (sym answer)
 
 pub returns-clause-after : goal.returns-clause-after
 returns-clause-after c =
@@ -129,4 +129,4 @@ returns-clause-after c =
     let filled = c.fill_todo.ensures ∙ ap (λ marks. marks ++ writes_of c.len-number.result (entry_seen entry)) c.make_room.ensures.todo in
     let flight = ap (λ (lane : Flight PostedWrite). record (lane_seen old) { sent = map entry_seen c.push_reserved.new.self.items; todo = c.fill_todo.new.todo.items; flight = map (λ (write : PostedWrite). write.mark) lane.writes }) c.in_ok-make_room.ensures.promised in
     let seen = flight ∙ begun_lane old entry c.push_reserved.new.self.items c.fill_todo.new.todo.items c.len-number.result begun none pushed filled in
-    ap (λ (lane : Lane). with_lane (value_seen old) lane) seen ∙ ap (λ (value : LaneValue). with_lane value (after_begin value.lane (entry_seen entry))) c.self.view_is
+    ap (λ (lane : Lane). core_with_lane (value_seen old) lane) seen ∙ ap (λ (value : LaneValue). core_with_lane value (after_begin value.lane (entry_seen entry))) c.self.view_is

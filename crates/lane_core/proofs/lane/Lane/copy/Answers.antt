@@ -7,7 +7,7 @@ use Rattle.lane_model.specs.Steps.{more_to_copy}
 use Rattle.lane_model.specs.declared.Phase.{Phase}
 use Rattle.lane_model.specs.declared.Phase.TheVariants.{Copied}
 use Rattle.lane_laws.proofs.Facade.{copy_keeps}
-use Rattle.lane_core.specs.Calls.{LaneValue, with_lane, after_copying, copy_answer, is_copying}
+use Rattle.lane_core.specs.Calls.{LaneValue, core_with_lane, after_copying, core_copy_answer, is_copying}
 use Rattle.step_kinds.specs.declared.lanes.LaneCopy.TheVariants.{OutOfTurn, Part}
 use Rattle.lane_core.specs.Parts.{place_seen}
 use Rattle.lane_core.specs.LaneView.{index_room, lane_seen, value_seen}
@@ -80,21 +80,21 @@ pub returns-clause-law : goal.returns-clause-law
 returns-clause-law c = (invariant_of-self-2 c).law
 
 pub returns-clause-answer : goal.returns-clause-answer
-returns-clause-answer c = answer_whole c.self.inside c.of_vec.result c.in-Copying.is (copied_whole c) ∙ ap (λ (value : LaneValue). copy_answer value.lane) c.self.view_is
+returns-clause-answer c = answer_whole c.self.inside c.of_vec.result c.in-Copying.is (copied_whole c) ∙ ap (λ (value : LaneValue). core_copy_answer value.lane) c.self.view_is
 
 pub returns-clause-after : goal.returns-clause-after
 returns-clause-after c =
     let old = c.self.inside in
     let after = cond-true (is_copying old.phase) _ (lane_seen old) (ap is_copying c.in-Copying.is) ∙ cond-false (more_to_copy (lane_seen old)) _ _ (copied_whole c).last in
-    ap (with_lane (value_seen old)) (sym after) ∙ ap (λ (value : LaneValue). with_lane value (after_copying value.lane)) c.self.view_is
+    ap (core_with_lane (value_seen old)) (sym after) ∙ ap (λ (value : LaneValue). core_with_lane value (after_copying value.lane)) c.self.view_is
 
 pub returns-in_default : goal.returns-in_default
 returns-in_default c =
     let old = c.self.inside in
     let other = not_copying_lane (lane_seen old) c.in_default.not-Copying in
     record {
-      answer = subst (λ (value : LaneValue). OutOfTurn ≡ copy_answer value.lane) c.self.view_is (sym other.answer);
-      after = subst (λ (value : LaneValue). value ≡ with_lane value (after_copying value.lane)) c.self.view_is (ap (with_lane (value_seen old)) (sym other.after));
+      answer = subst (λ (value : LaneValue). OutOfTurn ≡ core_copy_answer value.lane) c.self.view_is (sym other.answer);
+      after = subst (λ (value : LaneValue). value ≡ core_with_lane value (after_copying value.lane)) c.self.view_is (ap (core_with_lane (value_seen old)) (sym other.after));
       law = subst (λ (value : LaneValue). HoldsRingLaw value.lane) c.self.view_is c.self.invariant.law;
     }
 
@@ -113,13 +113,13 @@ pub returns-then-copy_chunk-clause-answer : goal.returns-then-copy_chunk-clause-
 returns-then-copy_chunk-clause-answer c =
     let old = c.self.inside in
     let answer = cond-true (is_copying old.phase) _ OutOfTurn (ap is_copying c.in-Copying.is) ∙ cond-true (more_to_copy (lane_seen old)) (Part old.got old.part) _ (more_copied c) in
-    sym answer ∙ ap (λ (value : LaneValue). copy_answer value.lane) c.self.view_is
+    sym answer ∙ ap (λ (value : LaneValue). core_copy_answer value.lane) c.self.view_is
 
 pub returns-then-copy_chunk-clause-after : goal.returns-then-copy_chunk-clause-after
 returns-then-copy_chunk-clause-after c =
     let old = c.self.inside in
     let after = cond-true (is_copying old.phase) _ (lane_seen old) (ap is_copying c.in-Copying.is) ∙ cond-true (more_to_copy (lane_seen old)) _ _ (more_copied c) in
-    ap (with_lane (value_seen old)) (sym after) ∙ ap (λ (value : LaneValue). with_lane value (after_copying value.lane)) c.self.view_is
+    ap (core_with_lane (value_seen old)) (sym after) ∙ ap (λ (value : LaneValue). core_with_lane value (after_copying value.lane)) c.self.view_is
 
 pub copy_chunk-requires : goal.copy_chunk-requires
 copy_chunk-requires c =

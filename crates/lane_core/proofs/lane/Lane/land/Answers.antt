@@ -7,8 +7,8 @@ use Rattle.std.proofs.lemmas.Option.{slice_get-map}
 use Rattle.lane_model.specs.Law.{HoldsRingLaw}
 use Rattle.lane_model.specs.Steps.{after_landing}
 use Rattle.pair_model.specs.Labels.{label_of}
-use Rattle.lane_core.specs.Calls.{LaneValue, with_lane, land_answer, after_land, number_of}
-use Rattle.lane_core.specs.Parts.{IsKnown, entry_in, entry_seen, place_seen, ring_after}
+use Rattle.lane_core.specs.Calls.{LaneValue, core_with_lane, core_land_answer, core_after_land, core_number_of}
+use Rattle.lane_core.specs.Parts.{IsKnown, core_entry_in, entry_seen, place_seen, core_ring_after}
 use Rattle.lane_core.specs.LaneView.{lane_seen, value_seen}
 use Rattle.lane_core.specs.declared.answers.LaneLand.TheVariants.{Landed, Blocked, Nothing}
 use Rattle.lane_core.specs.declared.entry.Entry.{Entry}
@@ -33,7 +33,7 @@ returns-in-Nothing-clause-answer c =
     let old = c.self.inside in
     let found = was_nothing _ _ c.in-Nothing.ensures.answer in
     let none : slice_get (lane_seen old).flight c.args.place ≡ None = slice_get-map (λ (w : PostedWrite). w.mark) old.flight.writes c.args.place ∙ ap (option_map (λ (w : PostedWrite). w.mark)) found in
-    subst (λ (value : LaneValue). Nothing ≡ land_answer value c.args.place) c.self.view_is (sym (answer_nothing (value_seen old) c.args.place none))
+    subst (λ (value : LaneValue). Nothing ≡ core_land_answer value c.args.place) c.self.view_is (sym (answer_nothing (value_seen old) c.args.place none))
 
 pub invariant_of-self-in-Blocked : goal.invariant_of-self-in-Blocked
 invariant_of-self-in-Blocked c =
@@ -52,13 +52,13 @@ returns-in-Nothing-clause-after c =
     let found = was_nothing _ _ c.in-Nothing.ensures.answer in
     let none : slice_get (lane_seen old).flight c.args.place ≡ None = slice_get-map (λ (w : PostedWrite). w.mark) old.flight.writes c.args.place ∙ ap (option_map (λ (w : PostedWrite). w.mark)) found in
     let same : c.land.new.self ≡ old.flight = c.in-Nothing.ensures.after ∙ cond-false _ _ _ (past_the_end order_of_write old.flight.writes c.args.place found) in
-    rw same (subst (λ (value : LaneValue). value_seen old ≡ with_lane value (after_land value c.args.place)) c.self.view_is (ap (with_lane (value_seen old)) (sym (after_nothing (value_seen old) c.args.place none))))
+    rw same (subst (λ (value : LaneValue). value_seen old ≡ core_with_lane value (core_after_land value c.args.place)) c.self.view_is (ap (core_with_lane (value_seen old)) (sym (after_nothing (value_seen old) c.args.place none))))
 
 pub returns-in-Blocked-clause-answer : goal.returns-in-Blocked-clause-answer
 returns-in-Blocked-clause-answer c =
     let old = c.self.inside in
     let held = is_held_back old c.args.place c.in-Blocked.ensures.answer c.self.invariant.sending.orders in
-    subst (λ (value : LaneValue). Blocked ≡ land_answer value c.args.place) c.self.view_is (sym held.0)
+    subst (λ (value : LaneValue). Blocked ≡ core_land_answer value c.args.place) c.self.view_is (sym held.0)
 
 pub returns-in-Blocked-clause-after : goal.returns-in-Blocked-clause-after
 returns-in-Blocked-clause-after c =
@@ -66,7 +66,7 @@ returns-in-Blocked-clause-after c =
     let waits = was_blocked _ _ c.in-Blocked.ensures.answer in
     let same : c.land.new.self ≡ old.flight = c.in-Blocked.ensures.after ∙ cond-false _ _ _ waits.2 in
     let held = is_held_back old c.args.place c.in-Blocked.ensures.answer c.self.invariant.sending.orders in
-    rw same (subst (λ (value : LaneValue). value_seen old ≡ with_lane value (after_land value c.args.place)) c.self.view_is (ap (with_lane (value_seen old)) (sym held.1)))
+    rw same (subst (λ (value : LaneValue). value_seen old ≡ core_with_lane value (core_after_land value c.args.place)) c.self.view_is (ap (core_with_lane (value_seen old)) (sym held.1)))
 
 pub store-requires-clause-can : goal.store-requires-clause-can
 store-requires-clause-can c =
@@ -93,8 +93,8 @@ lane_after c =
     let ring =
     ap (map place_seen) (with_items_is old.ring c.store.new.ring (omega arith))
     ∙ c.store.ensures
-    ∙ ap (λ (places : List Slot). ring_after (map place_seen places) (map entry_seen c.deref.result.now) mark) c.deref_mut.ensures.value
-    ∙ ap (λ (entries : List Entry). ring_after (map place_seen old.ring.items) (map entry_seen entries) mark) c.deref.ensures.value in
+    ∙ ap (λ (places : List Slot). core_ring_after (map place_seen places) (map entry_seen c.deref.result.now) mark) c.deref_mut.ensures.value
+    ∙ ap (λ (entries : List Entry). core_ring_after (map place_seen old.ring.items) (map entry_seen entries) mark) c.deref.ensures.value in
     landed_lane (lane_seen old) _ _ _ _ mark c.self.invariant.law.2.room.slots landed.marks ring (ap (λ count. old.flagged + count) c.landed_flags.ensures)
 
 pub invariant_of-self-in-Landed : goal.invariant_of-self-in-Landed
@@ -117,8 +117,8 @@ returns-in-Landed-clause-answer c =
     let old = c.self.inside in
     let mark = c.in-Landed.field-0.mark in
     let landed = has_landed old c.args.place c.in-Landed.field-0 c.land.new.self c.in-Landed.ensures.answer c.in-Landed.ensures.after c.self.invariant in
-    let labelled = c.label.ensures ∙ ap (λ (entries : List Entry). label_of old.queue (entry_in (map entry_seen entries) (number_of mark)) mark) c.deref-in-Landed.ensures.value in
-    subst (λ (value : LaneValue). Landed c.label.result ≡ land_answer value c.args.place) c.self.view_is
+    let labelled = c.label.ensures ∙ ap (λ (entries : List Entry). label_of old.queue (core_entry_in (map entry_seen entries) (core_number_of mark)) mark) c.deref-in-Landed.ensures.value in
+    subst (λ (value : LaneValue). Landed c.label.result ≡ core_land_answer value c.args.place) c.self.view_is
     (ap Landed labelled ∙ sym (answer_landed (value_seen old) c.args.place mark landed.found landed.may))
 
 pub returns-in-Landed-clause-after : goal.returns-in-Landed-clause-after
@@ -126,5 +126,5 @@ returns-in-Landed-clause-after c =
     let old = c.self.inside in
     let mark = c.in-Landed.field-0.mark in
     let landed = has_landed old c.args.place c.in-Landed.field-0 c.land.new.self c.in-Landed.ensures.answer c.in-Landed.ensures.after c.self.invariant in
-    ap (with_lane (value_seen old)) (lane_after c ∙ sym (after_landed (value_seen old) c.args.place mark landed.found landed.may))
-    ∙ ap (λ (value : LaneValue). with_lane value (after_land value c.args.place)) c.self.view_is
+    ap (core_with_lane (value_seen old)) (lane_after c ∙ sym (after_landed (value_seen old) c.args.place mark landed.found landed.may))
+    ∙ ap (λ (value : LaneValue). core_with_lane value (core_after_land value c.args.place)) c.self.view_is

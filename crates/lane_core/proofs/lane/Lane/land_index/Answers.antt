@@ -1,7 +1,7 @@
 use Rattle.std.proofs.Common.{ap, ◌∙◌, sym, arith}
 use Rattle.std.proofs.lemmas.List.{length-map}
 use Rattle.lane_core.specs.Parts.{entry_seen}
-use Rattle.lane_core.specs.Calls.{LaneValue, with_lane, after_land_index}
+use Rattle.lane_core.specs.Calls.{LaneValue, core_with_lane, after_land_index}
 use Rattle.lane_core.specs.LaneView.{value_seen}
 use Rattle.lane_core.proofs.IndexLandings.{has_returned, returned_answer, none_returned, blocked_return, unmoved_answer, unmoved_after}
 use Rattle.lane_core.proofs.lane.Lane.land_index.Goals as goal
@@ -59,4 +59,4 @@ returns-in-Landed-clause-after c =
     let old = c.self.inside in
     let landed = has_returned old c.args.place c.in-Landed.field-0 c.land.new.self c.in-Landed.ensures.answer c.in-Landed.ensures.after c.self.invariant.law in
     rw c.position_of-self-inside.ensures.value
-    (ap (with_lane (value_seen old)) (sym landed.after) ∙ ap (λ (value : LaneValue). with_lane value (after_land_index value.lane c.args.place)) c.self.view_is)
+    (ap (core_with_lane (value_seen old)) (sym landed.after) ∙ ap (λ (value : LaneValue). core_with_lane value (after_land_index value.lane c.args.place)) c.self.view_is)

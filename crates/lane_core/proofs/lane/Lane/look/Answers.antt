@@ -7,7 +7,7 @@ use Rattle.lane_model.specs.Steps.{after_look}
 use Rattle.lane_model.specs.declared.Phase.TheVariants.{Copying}
 use Rattle.posted_queue.specs.Flight.{Flight}
 use Rattle.lane_laws.proofs.Facade.{look_keeps}
-use Rattle.lane_core.specs.Calls.{LaneValue, look_answer, with_lane}
+use Rattle.lane_core.specs.Calls.{LaneValue, core_look_answer, core_with_lane}
 use Rattle.lane_core.specs.declared.answers.LaneLook.TheVariants.{Ready, Empty, PeerDown, OutOfTurn}
 use Rattle.lane_core.specs.declared.write.IndexWrite.{IndexWrite}
 use Rattle.lane_core.specs.Parts.{place_seen}
@@ -43,7 +43,7 @@ returns-in_default c =
     let old = c.self.inside in
     let answer = answers_out_of_turn (lane_seen old) c.in_default.not-Idle in
     record {
-      answer = subst (λ (value : LaneValue). OutOfTurn ≡ look_answer value.lane) c.self.view_is (sym answer);
+      answer = subst (λ (value : LaneValue). OutOfTurn ≡ core_look_answer value.lane) c.self.view_is (sym answer);
       after = refl;
       err = tt;
       wants = tt;
@@ -59,7 +59,7 @@ returns-in-Nothing c =
     let here = read_place old old.got c.position_of.result place c.position_of.ensures.value (omega arith) c.index-place.ensures in
     let answer = answers_empty (lane_seen old) c.in-Idle.is (rw here (λ e. cc (c.in-Nothing.ensures.frame e))) (rw here (λ e. cc (c.in-Nothing.ensures.link_down e))) kept.law in
     record {
-      answer = subst (λ (value : LaneValue). Empty ≡ look_answer value.lane) c.self.view_is (sym answer);
+      answer = subst (λ (value : LaneValue). Empty ≡ core_look_answer value.lane) c.self.view_is (sym answer);
       after = refl;
       err = tt;
       wants = tt;
@@ -75,7 +75,7 @@ returns-in-GoesDown c =
     let here = read_place old old.got c.position_of.result place c.position_of.ensures.value (omega arith) c.index-place.ensures in
     let answer = answers_down (lane_seen old) c.in-Idle.is (rw here (λ e. cc (c.in-GoesDown.ensures.nothing e))) (rw here (λ e. cc (c.in-GoesDown.ensures.frame e))) kept.law in
     record {
-      answer = subst (λ (value : LaneValue). PeerDown ≡ look_answer value.lane) c.self.view_is (sym answer);
+      answer = subst (λ (value : LaneValue). PeerDown ≡ core_look_answer value.lane) c.self.view_is (sym answer);
       after = refl;
       err = tt;
       wants = tt;
@@ -95,7 +95,7 @@ returns-in_err-buffer-in-Frame c =
       answer = IfOk-from_err residual.result _ residual.ensures.0;
       after = IfOk-from_err residual.result _ residual.ensures.0;
       err = on_err residual.result refl;
-      wants = on_err residual.result (subst (λ (value : LaneValue). look_answer value.lane ≡ Ready value.lane.got (length (bytes_of (entry_of value.lane value.lane.got)))) c.self.view_is answer);
+      wants = on_err residual.result (subst (λ (value : LaneValue). core_look_answer value.lane ≡ Ready value.lane.got (length (bytes_of (entry_of value.lane value.lane.got)))) c.self.view_is answer);
       law = subst (λ (value : LaneValue). HoldsRingLaw value.lane) c.self.view_is kept.law;
     }
 
@@ -120,12 +120,12 @@ returns-in_err-promise-in-Frame c =
     let here = read_place old old.got c.position_of.result place c.position_of.ensures.value (omega arith) c.index-place.ensures in
     let answer = answers_ready (lane_seen old) c.in-Idle.is (rw here (λ e. cc (c.in-Frame.ensures.nothing e))) (rw here (λ e. cc (c.in-Frame.ensures.link_down e))) kept.law in
     let residual = c.from_residual-in_err-promise-in-Frame in
-    let same = ap (λ (returning : Flight IndexWrite). with_lane (value_seen old) (record (lane_seen old) { returning = map (λ (write : IndexWrite). write.number) returning.writes })) c.in_err-promise-in-Frame.ensures.err in
+    let same = ap (λ (returning : Flight IndexWrite). core_with_lane (value_seen old) (record (lane_seen old) { returning = map (λ (write : IndexWrite). write.number) returning.writes })) c.in_err-promise-in-Frame.ensures.err in
     record {
       answer = IfOk-from_err residual.result _ residual.ensures.0;
       after = IfOk-from_err residual.result _ residual.ensures.0;
       err = on_err residual.result (same ∙ c.self.view_is);
-      wants = on_err residual.result (subst (λ (value : LaneValue). look_answer value.lane ≡ Ready value.lane.got (length (bytes_of (entry_of value.lane value.lane.got)))) c.self.view_is answer);
+      wants = on_err residual.result (subst (λ (value : LaneValue). core_look_answer value.lane ≡ Ready value.lane.got (length (bytes_of (entry_of value.lane value.lane.got)))) c.self.view_is answer);
       law = (invariant_of-self c).law;
     }
 
@@ -138,10 +138,10 @@ returns-in_ok-promise-in-Frame-clause-answer c =
     let here = read_place old old.got c.position_of.result place c.position_of.ensures.value (omega arith) c.index-place.ensures in
     let frame = finds_entry (lane_seen old) c.in-Idle.is (rw here (λ e. cc (c.in-Frame.ensures.nothing e))) kept.law in
     let answer = answers_ready (lane_seen old) c.in-Idle.is (rw here (λ e. cc (c.in-Frame.ensures.nothing e))) (rw here (λ e. cc (c.in-Frame.ensures.link_down e))) kept.law ∙ ap (Ready old.got) (frame.size ∙ ap (λ (p : Slot). p.len) here) in
-    subst (λ (value : LaneValue). Ready old.got place.len ≡ look_answer value.lane) c.self.view_is (sym answer)
+    subst (λ (value : LaneValue). Ready old.got place.len ≡ core_look_answer value.lane) c.self.view_is (sym answer)
 
 pub returns-in_ok-promise-in-Frame-clause-after : goal.returns-in_ok-promise-in-Frame-clause-after
 returns-in_ok-promise-in-Frame-clause-after c =
     let old = c.self.inside in
-    let after = ap (λ (returning : Flight IndexWrite). with_lane (value_seen old) (record (lane_seen old) { returning = map (λ (write : IndexWrite). write.number) returning.writes; phase = Copying; part = 0 })) c.in_ok-promise-in-Frame.ensures.ok in
-    after ∙ ap (λ (value : LaneValue). with_lane value (after_look value.lane)) c.self.view_is
+    let after = ap (λ (returning : Flight IndexWrite). core_with_lane (value_seen old) (record (lane_seen old) { returning = map (λ (write : IndexWrite). write.number) returning.writes; phase = Copying; part = 0 })) c.in_ok-promise-in-Frame.ensures.ok in
+    after ∙ ap (λ (value : LaneValue). core_with_lane value (after_look value.lane)) c.self.view_is

@@ -10,17 +10,17 @@ use Rattle.frame_ring.specs.Port.{PortState}
 use Rattle.frame_ring.specs.PortCalls.{HasPromisedBoth, IsGrownBoth}
 use Rattle.frame_ring.specs.declared.RingLook.{RingLook}
 use Rattle.queue_pair.proofs.LookAnswers.{answers_closed, answers_unjoined, looked, looked_else, looked_is, unchanged_closed, unchanged_unjoined}
-use Rattle.queue_pair.specs.Gates.{after_look, is_joined}
+use Rattle.queue_pair.specs.Gates.{queue_after_look, is_joined}
 use Rattle.queue_pair.specs.Queue.{QueueState}
 use Rattle.queue_pair.proofs.queue.QueuePair.look.Goals as goal
 use Rattle.queue_pair.proofs.queue.QueuePair.look.Goals.{in-PeerDown, in_default}
 
-queue_left : (c : goal.After-answer_of_look) → c.match-look.self ≡ after_look c.args.self.now c.args.pair.now
+queue_left : (c : goal.After-answer_of_look) → c.match-look.self ≡ queue_after_look c.args.self.now c.args.pair.now
 queue_left c =
     let queue : QueueState = record { port = c.self.inside.port; closed = c.self.inside.closed } in
     let joined : is_joined queue c.args.pair.now ≡ true = ap (λ (queue : QueueState). is_joined queue c.args.pair.now) c.self.view_is ∙ sym c.is_joined.ensures ∙ c.if-not-is_joined.false in
     let left = looked_is queue c.args.pair.now c.in_ok-look.look c.look.new.self joined c.if-self.false c.in_ok-look.ensures.answer c.in_ok-look.ensures.after in
-    let whole = sym left ∙ ap (λ (queue : QueueState). after_look queue c.args.pair.now) c.self.view_is in
+    let whole = sym left ∙ ap (λ (queue : QueueState). queue_after_look queue c.args.pair.now) c.self.view_is in
     elim c.match-look.branch [
       | in-PeerDown w ↦ w.self-is ∙ sym (ap (λ (look : RingLook). looked look queue c.look.new.self) w.in-PeerDown.is) ∙ whole
       | in_default w ↦ w.self-is ∙ sym (looked_else queue c.in_ok-look.look c.look.new.self w.in_default.not-PeerDown) ∙ whole

@@ -1,5 +1,5 @@
 use Rattle.std.proofs.Common.{◌∙◌, ap, sym}
-use Rattle.frame_ring.specs.Calls.{look_answer as port_look_answer}
+use Rattle.frame_ring.specs.Calls.{port_look_answer}
 use Rattle.frame_ring.specs.declared.RingLook.{RingLook}
 use Rattle.queue_pair.proofs.LookAnswers.{answers_by_port, answers_closed, answers_unjoined}
 use Rattle.queue_pair.specs.Gates.{answer_of_look}

@@ -2,10 +2,10 @@ use Rattle.std.proofs.Common.{◌≡◌, ℕ, ◌+◌, ◌%◌, ◌≤◌, List,
 use Rattle.atomic_table.specs.Table.{turned}
 use Rattle.table_lane.specs.declared.parts.MovePart.{MovePart}
 use Rattle.table_lane.specs.declared.parts.LaneView.{LaneView}
-use Rattle.table_lane.specs.Words.{header_of}
+use Rattle.table_lane.specs.Words.{table_header_of}
 use Rattle.table_lane.specs.Rule.{Sitter}
 use Rattle.table_lane.specs.Views.{the_move, with_move}
-use Rattle.table_lane.specs.Knowledge.{taken, posted_loaded, frame_taken}
+use Rattle.table_lane.specs.Knowledge.{table_taken, posted_loaded, frame_taken}
 use Rattle.table_lane.specs.EndFields.{MovesWith}
 use Rattle.table_lane.proofs.WaitingEntries.{waits_few, with_frame}
 use Rattle.table_lane.proofs.mover.MoveEnd.take_posted.Goals as goal
@@ -22,8 +22,8 @@ invariant_of-self-2 c =
     let old : Sitter = c.self.inside.at.seat.me in
     let part : MovePart = the_move old.0 in
     let found : ℕ = c.load_posted.result in
-    let next : taken part ≡ c.self.inside.taken = ap (λ (n : ℕ). n + length part.held) inv.me.flagged ∙ inv.me.taken in
-    let hit : eqb found (header_of (taken part)) ≡ true = eq-eqb found (header_of (taken part)) (c.if-load_posted-header_of.false ∙ c.header_of.ensures ∙ ap header_of (sym next)) in
+    let next : table_taken part ≡ c.self.inside.taken = ap (λ (n : ℕ). n + length part.held) inv.me.flagged ∙ inv.me.taken in
+    let hit : eqb found (table_header_of (table_taken part)) ≡ true = eq-eqb found (table_header_of (table_taken part)) (c.if-load_posted-header_of.false ∙ c.header_of.ensures ∙ ap table_header_of (sym next)) in
     let told = rw hit at c.load_posted.ensures.tells.0 in
     let view : LaneView = with_move old.0 (frame_taken (posted_loaded part found) told.0) in
     let me : c.turn.new.self.me ≡ (view, old.1 ++ (c.self.inside.taken % c.self.inside.at.entries, Some told.0) ∷ []) =

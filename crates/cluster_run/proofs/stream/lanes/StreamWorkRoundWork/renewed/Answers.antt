@@ -1,6 +1,6 @@
 use Rattle.std.proofs.Common.{◌≡◌, ◌+◌, ◌-◌, length, true, refl, sym, ◌∙◌, ap, arith}
 use Rattle.cluster_run.specs.LaneKeys.{LaneState}
-use Rattle.cluster_run.specs.stream.Workers.{SessionState}
+use Rattle.cluster_run.specs.stream.Workers.{StreamSessionState}
 use Rattle.cluster_run.proofs.Streams.StreamEnds.{StreamLaws, key_is, next_can_begin, next_items, next_work}
 use Rattle.cluster_run.proofs.stream.lanes.StreamWorkRoundWork.renewed.Goals as goal
 
@@ -29,5 +29,5 @@ invariant_of-result c =
 pub returns-clause-key : goal.returns-clause-key
 returns-clause-key c =
     let next = c.next_ends-sender in
-    let items = ap (λ (s : SessionState). s.key.items) c.in_ok-new.ensures ∙ next_items c.self.inside c.in_ok-end.end next.result.sender c.in_ok-end.ensures next.ensures.sender in
+    let items = ap (λ (s : StreamSessionState). s.key.items) c.in_ok-new.ensures ∙ next_items c.self.inside c.in_ok-end.end next.result.sender c.in_ok-end.ensures next.ensures.sender in
     key_is refl refl refl refl items ∙ ap (λ (s : LaneState). s.key) c.self.view_is

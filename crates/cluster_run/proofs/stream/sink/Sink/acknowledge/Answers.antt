@@ -2,7 +2,7 @@ use Rattle.std.proofs.Common.{Bool, ◌<◌, length, if◌then◌else◌, [], �
 use Rattle.std.proofs.lemmas.Bool.{true≢false}
 use Rattle.std.proofs.lemmas.Bool.Decides.{nat_tests}
 use Rattle.stream_model.specs.Receiver.{ack_frame}
-use Rattle.table_lane.specs.Ends.{Sender}
+use Rattle.table_lane.specs.Ends.{TableSender}
 use Rattle.cluster_run.proofs.Streams.KeptItems.{told_more, told_same}
 use Rattle.cluster_run.proofs.stream.sink.Sink.acknowledge.Goals as goal
 
@@ -26,4 +26,4 @@ invariant_of-self-else-acknowledge g c =
 
 pub invariant_of-self-in-Err : goal.invariant_of-self-in-Err
 invariant_of-self-in-Err g c =
-    told_same c.self.inside _ c.self.invariant refl refl refl (λ calm. absurd (true≢false calm)) (ap (λ (s : Sender). s.part.sent) c.in-Err.ensures.err) refl
+    told_same c.self.inside _ c.self.invariant refl refl refl (λ calm. absurd (true≢false calm)) (ap (λ (s : TableSender). s.part.sent) c.in-Err.ensures.err) refl
