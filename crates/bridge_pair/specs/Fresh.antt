@@ -1,4 +1,4 @@
--- A pair before any step: down and forgotten, or, where its plan says so, up as after a whole handshake.
+-- A pair before any step: down and forgotten, or, if its plan says so, up as after a whole handshake.
 use Rattle.std.specs.Prelude.{ℕ, true, List, [], replicate, if◌then◌else◌}
 use Rattle.step_kinds.specs.Bits.{all_below}
 use Rattle.step_kinds.specs.Sides.{other_side}
@@ -59,6 +59,6 @@ fresh_bridge_with plan memories =
 abbrev pub fresh_bridge : PairPlan → Both (List ℕ) → Bridge
 fresh_bridge plan pages = fresh_bridge_with plan (record { a = fresh_memory plan A pages.a; b = fresh_memory plan B pages.b })
 
--- a side's memory with its index words, where these pages are promised
+-- a side's memory with its index words, if these pages are promised
 abbrev pub started_memory : Bridge → Side → List ℕ → Contents
 started_memory bridge side pages = record { bytes = bytes_after (fresh_index_words bridge.plan side) (bridge_bytes_of bridge side); promised = pages }

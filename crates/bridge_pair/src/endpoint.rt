@@ -403,7 +403,7 @@ fn take_buffer(buffers: &mut Vec<Buffer>) -> Buffer
     }
 }
 
-// Keeps the buffer of bytes that arrived, where they had one, for later bytes; unless there is no room to keep it.
+// Keeps the buffer of bytes that arrived, if they had one, for later bytes; unless there is no room to keep it.
 #[inline]
 fn keep_buffer(buffers: &mut Vec<Buffer>, bytes: FlyingBytes)
     ensures { vec_len buffers.old ≤ vec_len buffers.new }

@@ -88,7 +88,7 @@ impl FlyingBytes {
         }
     }
 
-    /// Returns the buffer, where there is one.
+    /// Returns the buffer, if there is one.
     #[inline]
     pub fn into_buffer(self) -> Option<Buffer> {
         match self.kept {

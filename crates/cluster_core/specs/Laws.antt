@@ -13,7 +13,7 @@ use Rattle.ledger_model.specs.Memory.{memory_of}
 use Rattle.ledger_model.specs.NetworkLog.{answer_after}
 use Rattle.cluster_core.specs.LogClauses.{HasClusterMade, IsClusterAnswered}
 
--- Of two clusters that have made one common list of steps, whatever else the one has made, the other has made too.
+-- If some step list leads to both clusters, every step list that leads to one leads to the other.
 abbrev pub SameSteps : Type 0
 SameSteps = (plan : Plan) (common steps : List Step) (cluster other : ClusterState) →
     HasClusterMade plan common cluster → HasClusterMade plan common other → HasClusterMade plan steps cluster → HasClusterMade plan steps other

@@ -65,7 +65,7 @@ fn push_sessions(
     Ok(())
 }
 
-// Adds the counts of a lane in a session, where either isn't 0.
+// Adds the counts of a lane in a session, if either isn't 0.
 fn push_session(
     counts: &mut Vec<LaneCount>,
     cluster: &Cluster,

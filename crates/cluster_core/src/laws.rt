@@ -2,8 +2,7 @@
 
 ghost use Rattle.cluster_core.specs.Laws.{ClusterKeyOnceLanded, OneAnswer, SameClusterKeys, SameSteps};
 
-/// Of two clusters that have made one common list of steps of a plan, whatever other list the one has made, the other
-/// has made too. No premise.
+/// If some list of a plan's steps leads to both clusters, every list that leads to one leads to the other. No premise.
 pub fn same_steps()
     ensures { SameSteps }
 {}

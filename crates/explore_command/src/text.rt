@@ -271,7 +271,7 @@ fn push_common(
     Ok(())
 }
 
-// Adds the answer of all outcomes to the step with a number, where they agree there.
+// Adds the answer of all outcomes to the step with a number, if they agree there.
 fn push_where(
     text: &mut Vec<u8>,
     plan: &Plan,

@@ -11,7 +11,7 @@ use Rattle.ledger_model.specs.NetworkLog.{answer_after}
 use Rattle.report_text.specs.Texts.{answer_text}
 use Rattle.explore_model.specs.declared.outcome.Landing.{Landing}
 
--- the text of what a step of a plan is answered after these steps, where memories show what was stored
+-- the text of what a step of a plan is answered after these steps, if memories show what was stored
 abbrev pub text_after : Plan → List Step → Step → List ℕ
 text_after plan steps step = answer_text (answer_after plan (memory_of plan) steps step)
 

@@ -65,7 +65,7 @@ module _ {M : Type 0} (has_made : M → Plan → List Step → Type 0) (plan : P
   to_at more answers (state ∷ states) all zero run d below = record { first = refl; answered = refl; made = refl }
   to_at more answers (state ∷ states) all (suc k) run d below = to_at more answers states (All-tail (HasSearchRun plan done answers) state states all) k run d (omega arith)
 
-  -- the counted runs, where the first groups of a layer are among them
+  -- the counted runs, if the first groups of a layer are among them
   record IsCounting (groups : List (Group M)) (n count : ℕ) : Type 0 where
     seen : List (Passing plan (search_script_of plan))
     counted : length seen ≡ count

@@ -98,7 +98,7 @@ module _ {M : Type 0} where
   StandsAt states key Met found =
       MatchOption found (NoneFrom states Met 0) (λ place. ((d : State M) → (get_or states place d).key.items ≡ key) × NoneFrom states Met (place + 1))
 
-  -- it goes on with the last one before a place, where none from that place on is met, nor one with another key
+  -- it goes on with the last one before a place, if none from that place on is met, nor one with another key
   pub stands_before : (states : List (State M)) (key : List ℕ) (Met : State M → Type 0) (count : ℕ) (found : Option ℕ) →
       ((k : ℕ) (d : State M) → k < length states → ((get_or states k d).key.items ≡ key → ⊥) → Met (get_or states k d) → ⊥) →
       IsLast states key count found → NoneFrom states Met count → StandsAt states key Met found

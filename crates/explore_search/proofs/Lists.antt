@@ -22,7 +22,7 @@ any_last P xs x is =
 pub any_weaker : {X : Type 0} (P Q : X → Type 0) (xs : List X) → ((x : X) → P x → Q x) → Any P xs → Any Q xs
 any_weaker P Q xs so some = (some.0, some.1, some.2, some.3, so some.1 some.4)
 
--- some item, where all have another property too
+-- some item, if all have another property too
 pub any_of_all : {X : Type 0} (P A Q : X → Type 0) (xs : List X) → All A xs → ((x : X) → A x → P x → Q x) → Any P xs → Any Q xs
 any_of_all P A Q xs all so some = (some.0, some.1, some.2, some.3, so some.1 (subst A some.3 (all some.0 some.1 some.2)) some.4)
 

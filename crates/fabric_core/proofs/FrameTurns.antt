@@ -128,7 +128,7 @@ answered_by_length part bridge dst src kind payload given size to from same is =
 pub begins_by : (given answer : Answer) (number : ℕ) → given ≡ answer → given ≡ OkNumber number → IsBegun answer
 begins_by given answer number same begun = ap is_begun (sym same ∙ begun)
 
--- the same, where it wasn't
+-- the same, if it wasn't
 begins_not : (given : Answer) → ((number : ℕ) → given ≡ OkNumber number → ⊥) → is_begun given ≡ false
 begins_not (OkNumber number) other = absurd (other number refl)
 begins_not given other = refl

@@ -48,7 +48,7 @@ not_whole copy session part other = refl
 same_room : (spare unused unused_after : ℕ) → unused_after ≡ unused → spare + unused ≡ spare + unused_after
 same_room spare unused unused_after e = omega (arith, e)
 
--- A copy, which leaves the bridge as it is, keeps all that was promised, where its port has its pages after it.
+-- A copy, which leaves the bridge as it is, keeps all that was promised, if its port has its pages after it.
 pub keeps_copy : (port : PortState) (bridge : Bridge) → HasPagesIn (port_after_copy port bridge) bridge → KeepsPort port (port_after_copy port bridge) bridge bridge
 keeps_copy port bridge ready =
     keeps_exact port (port_after_copy port bridge) bridge bridge (copy_place port bridge) refl (λ any. refl)

@@ -226,7 +226,7 @@ one_list_makes_same plan steps fabric other made owns =
 
 -- By a comparison of the pairs
 
--- what one fabric has made, another of its pairs and devices has made too, where their pairs are the same
+-- what one fabric has made, another of its pairs and devices has made too, if their pairs are the same
 pub merged : (fabric other : FabricState) → plan_kept fabric ≡ plan_kept other → MadeSome (plan_kept other) other → AreSamePairs fabric.pairs other.pairs →
     (plan : Plan) (steps : List Step) → HasMade plan steps fabric → HasMade plan steps other
 merged fabric other plans some same plan steps made =

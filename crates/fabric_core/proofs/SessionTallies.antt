@@ -76,7 +76,7 @@ pub nowhere_more : (counts : List OfSession) (session place : ℕ) (none : OfSes
 nowhere_more counts session place none before below differs =
     below_more _ _ before (λ e. differs (sym (ap (λ (one : SessionCount). one.session) (get_or-map count_seen counts place none no_count below)) ∙ e))
 
--- The count kept at a session's place is the number of its frames, where each session has one place.
+-- The count kept at a session's place is the number of its frames, if each session has one place.
 pub counted_in : (counts : List OfSession) (session place : ℕ) (one : OfSession) → AreApart (map count_seen counts) → IsPlaceOf (map count_seen counts) session place
     → one ≡ get_or counts place one → one.count ≡ count_in (map count_seen counts) session
 counted_in counts session place one apart is at =
@@ -109,7 +109,7 @@ one_more_behind counts session none =
     map-append count_seen counts (record { session = session; count = 1 } ∷ [])
     ∙ sym (one_more-nowhere (map count_seen counts) session (subst (λ n. IsNowhere (map count_seen counts) session n) (sym (length-map counts count_seen)) none))
 
--- What is so of all counts stays so, where the count at a place grows
+-- What is so of all counts stays so, if the count at a place grows
 
 same_sessions : (counts : List SessionCount) (place : ℕ) (one : SessionCount) → place < length counts → one.session ≡ (get_or counts place no_count).session
     → (k : ℕ) → (get_or (set counts place one) k no_count).session ≡ (get_or counts k no_count).session

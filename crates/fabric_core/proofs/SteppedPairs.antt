@@ -56,7 +56,7 @@ whole_of_sides : (bridge : Bridge) (side : Side) (own peer : List QueuePart) →
 whole_of_sides bridge A own peer whole peer_whole = both_whole bridge own peer whole peer_whole
 whole_of_sides bridge B own peer whole peer_whole = both_whole bridge peer own peer_whole whole
 
--- A pair stays whole through a call of one queue of a side, where the call keeps what was promised.
+-- A pair stays whole through a call of one queue of a side, if the call keeps what was promised.
 pub called : (old new : Bridge) (side : Side) (own peer parts : List QueuePart) (queue : ℕ) → IsPairWhole (sides_of old side own peer) → queue < (side_plan old.plan side).queues
     → parts ≡ set own queue (get_or parts queue no_queue) → KeepsPort (get_or own queue no_queue).queue.port (get_or parts queue no_queue).queue.port old new
     → IsPairWhole (sides_of new side parts peer)
@@ -71,7 +71,7 @@ called old new side own peer parts queue whole below is keeps =
 same_state : (bridge bridge' : Bridge) (a a' b b' : List QueuePart) → bridge ≡ bridge' → a ≡ a' → b ≡ b' → state_of bridge a b ≡ state_of bridge' a' b'
 same_state bridge bridge' a a' b b' one two three = λ i. state_of (one i) (two i) (three i)
 
--- A pair makes the step that one of its queues made, where all other queues of the side stay.
+-- A pair makes the step that one of its queues made, if all other queues of the side stay.
 pub made_on_side : {E : Type 0} (devs : List DevPlan) (step : QueueStep) (result : Result Answer E) (old new : Bridge) (side : Side) (own peer parts : List QueuePart) (queue : ℕ)
     → parts ≡ set own queue (get_or parts queue no_queue) → OnErr result (parts ≡ own)
     → HasMadeOnQueue devs step (get_or own queue no_queue) (get_or parts queue no_queue) old new result

@@ -186,7 +186,7 @@ module _ (plan : Plan) (steps : List Step) (k : ℕ) (declared : IsDeclared plan
 queue_there : (plan : Plan) (k : ℕ) (side : Side) (queue : ℕ) (bridge : Bridge) → bridge.plan ≡ pair_plan plan k → IsQueueOf plan k side queue → queue < (side_plan bridge.plan side).queues
 queue_there plan k side queue bridge is may = subst (λ (pair : PairPlan). queue < (side_plan pair side).queues) (sym is) may.among
 
--- A permitted step finds all that it needs of its bridge, where queues are joined and sides come up only if all fits.
+-- A permitted step finds all that it needs of its bridge, if queues are joined and sides come up only if all fits.
 pub can_make : (plan : Plan) (step : Step) (bridge : Bridge) → IsDeclared plan → bridge.plan ≡ pair_plan plan (subject_of step) → BridgeAgrees bridge → IsPermitted plan step → CanMake plan.devs bridge step
 can_make plan (Check p side) bridge declared is agree may = agree.up side
 can_make plan (Ready p side queue) bridge declared is agree may = queue_there plan p side queue bridge is may

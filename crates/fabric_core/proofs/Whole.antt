@@ -45,7 +45,7 @@ by_side : (P : Side → Type 0) → P A → P B → (side : Side) → P side
 by_side P a b A = a
 by_side P a b B = b
 
--- A pair is whole, its queues in place with just the room that they haven't used, where both of its sides are.
+-- A pair is whole, its queues in place with just the room that they haven't used, if both of its sides are.
 pub both_whole : (bridge : Bridge) (a b : List QueuePart) → SideIsWhole bridge A a → SideIsWhole bridge B b → IsPairWhole (record { bridge = bridge; queues = record { a = a; b = b } })
 both_whole bridge a b whole_a whole_b =
     let state : PairState = record { bridge = bridge; queues = record { a = a; b = b } } in
@@ -61,7 +61,7 @@ side_whole state side whole = record { all_queues = whole.all_queues side; queue
 
 -- A side that has the same room, on a bridge whose pages stay
 
--- A side stays whole on a bridge of the same plan and the same room for it, where no promised page is lost.
+-- A side stays whole on a bridge of the same plan and the same room for it, if no promised page is lost.
 pub side_kept : (old new : Bridge) (side : Side) (parts : List QueuePart) → new.plan ≡ old.plan → PagesStay old new → (flight_of new side).spare ≡ (flight_of old side).spare
     → SideIsWhole old side parts → SideIsWhole new side parts
 side_kept old new side parts plan stay same whole =

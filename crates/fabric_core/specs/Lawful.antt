@@ -1,5 +1,5 @@
 -- What always holds of the steps that a fabric represents, and of the answer to one step more: the laws of
--- `ledger_laws`, where memories show what was stored.
+-- `ledger_laws`, if memories show what was stored.
 use Rattle.std.specs.Prelude.{List}
 use Rattle.step_kinds.specs.declared.plan.Plan.{Plan}
 use Rattle.step_kinds.specs.declared.steps.Answer.{Answer}

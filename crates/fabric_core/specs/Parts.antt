@@ -94,7 +94,7 @@ abbrev pub AreAlone : List DevPlan → ℕ → Type 0
 AreAlone devs k =
     (i j : ℕ) → i < length devs → j < length devs → (dev_plan devs i).pair ≡ k → SameQueue (dev_plan devs i) (dev_plan devs j) → i ≡ j
 
--- these are the limits of the device on the queue, where there is one
+-- these are the limits of the device on the queue, if there is one
 abbrev pub AreLimitsOn : List DevPlan → ℕ → Side → ℕ → ℕ → ℕ → Type 0
 AreLimitsOn devs k side queue stop start =
     (d : ℕ) → d < length devs → IsOn (dev_plan devs d) k side queue → (stop ≡ (dev_plan devs d).stop) × (start ≡ (dev_plan devs d).start)

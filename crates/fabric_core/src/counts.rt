@@ -140,9 +140,8 @@ impl Model for SessionCounts {
     ghost invariant = { IsTally };
 }
 
-// Where a session is counted. Mostly that is at the end, where it is the last one, or nowhere, where it comes after
-// all. Or it stands as many places after the first one as it comes after that, where each session between them has
-// frames.
+// Where a session is counted. Mostly that is at the end, if it is the last one, or nowhere, if it comes after all. Or
+// it stands as many places after the first one as it comes after that, if each session between them has frames.
 fn place_of(counts: &[OfSession], most: u32, session: u32) -> Option<usize>
     requires apart { AreApart (map count_seen counts.now) }
     requires most { AreUpTo (map count_seen counts.now) most }

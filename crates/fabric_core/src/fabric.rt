@@ -74,8 +74,8 @@ impl Fabric {
     /// [`AllocError`] from out of memory, or where a count would pass 2^62. That is one of a lane's entries in the
     /// session, of its frames in all sessions, or of what a device's counters count. It comes only of a step that
     /// promises room or pages or shows memory, and that the log doesn't refuse. The fabric represents the same steps as
-    /// before then, and nothing but promised room and pages has changed. A device's frame gets it too where its refusal
-    /// would be one more than 2^62.
+    /// before then, and nothing but promised room and pages has changed. Also returned when a device's refusal counter
+    /// would pass 2^62.
     #[inline(always)]
     pub fn step(&mut self, step: &Step) -> Result<Answer, AllocError>
         requires { IsPermitted (plan_kept self.old) step.now }

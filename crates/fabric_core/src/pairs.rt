@@ -350,7 +350,7 @@ fn fresh_queues(
     Ok(queues)
 }
 
-// Returns the limits of the device on a queue, where there is one.
+// Returns the limits of the device on a queue, if there is one.
 fn limits_on(devs: &[DevPlan], k: u32, side: Side, queue: u32) -> (u32, u32)
     requires { AreAlone devs.now k }
     ensures { AreLimitsOn devs.now k side queue result.0 result.1 }

@@ -112,7 +112,7 @@ impl QueueBox {
         }
     }
 
-    // Begins a frame, where it isn't refused.
+    // Begins a frame, if it isn't refused.
     fn begin(&mut self, pair: &mut Pair, alloc: Global, frame: &Frame) -> Result<Answer, AllocError>
         requires some { 0 < length frame.now }
         requires ready { CanBegin self.old.queue pair.old }
@@ -139,7 +139,7 @@ impl QueueBox {
         Ok(Answer::OkNumber { number })
     }
 
-    // Begins a device's frame, where it isn't refused, or counts the refusal.
+    // Begins a device's frame, if it isn't refused, or counts the refusal.
     fn xbegin(
         &mut self,
         pair: &mut Pair,

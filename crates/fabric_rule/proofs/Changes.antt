@@ -1,4 +1,4 @@
--- What is kept by side and queue, where one queue of one side has something else.
+-- What is kept by side and queue, if one queue of one side has something else.
 use Rattle.std.proofs.Common.{◌≡◌, ℕ, Bool, true, List, [], ◌++◌, refl, sym, ap, ◌∙◌, subst, inl, inr}
 use Rattle.std.proofs.lemmas.Bool.{cases_eq}
 use Rattle.std.proofs.lemmas.List.{append-nil}

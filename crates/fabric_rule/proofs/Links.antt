@@ -171,7 +171,7 @@ module _ (devs : List DevPlan) (plan : PairPlan) (k : ℕ) (site : Site) (pages 
   abbrev state : PairState
   state = state_for plan site pages spare queues
 
-  -- the move to another bridge, where the link doesn't refuse it
+  -- the move to another bridge, if the link doesn't refuse it
   abbrev moved : Option LinkRefusal → Answer → Bridge → Move
   moved refusal answer bridge = record { answer = of_link refusal answer; after = record state { bridge = after_step refusal state.bridge bridge } }
 

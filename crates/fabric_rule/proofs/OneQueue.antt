@@ -51,7 +51,7 @@ module _ {devs : List DevPlan} {plan : PairPlan} {k : ℕ} (now : Standing devs 
   abbrev pub part : Side → ℕ → QueuePart
   part side queue = slice_index_or (at_side now.queues side) queue no_queue
 
-  -- its queue pair, where the side has forgotten its session or has not
+  -- its queue pair, if the side has forgotten its session or has not
   abbrev pub port_queue : Side → ℕ → Bool → QueueState
   port_queue side queue forgotten = record { port = port_for plan side queue forgotten (view_of now.site.pair side queue) (part side queue).queue.port.sending.entry; closed = has_bit (side_of now.site.pair side).closed queue }
 

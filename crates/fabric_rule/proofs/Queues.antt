@@ -44,7 +44,7 @@ module _ (devs : List DevPlan) (plan : PairPlan) (k : ℕ) (side : Side) (down f
         ];
       }
 
--- the entries sent on each queue, where those of a lane stay
+-- the entries sent on each queue, if those of a lane stay
 pub sent_kept : (lanes : ℕ → LanePart) (queue : ℕ) (lane : LanePart) → lane.sent ≡ (lanes queue).sent → sent_of (updated lanes queue lane) ≡ sent_of lanes
 sent_kept lanes queue lane same = same_at (updated_same (λ (lane : LanePart). lane.sent) lanes queue lane same)
 

@@ -93,7 +93,7 @@ fields_lie plan = let lie = at (plan.a.version == 5 && plan.b.version == 5) in r
 
 -- In a side's own memory, where the peer's windows fit into those that it gives
 
--- A stretch of a window in which a side receives lies in its memory, where the peer's windows fit the side's cap.
+-- A stretch of a window in which a side receives lies in its memory, if the peer's windows fit the side's cap.
 pub own_inside : (plan : PairPlan) (side : Side) (queue at len : ℕ) → RingLies (layout_to plan side queue) → (side_plan plan (other_side side)).size ≤ (side_plan plan side).cap → at + len ≤ (side_plan plan (other_side side)).size
     → own_address plan side queue at + len ≤ memory_size plan side
 own_inside plan side queue at len lies fits within = in_window (window_of (layout_to plan side queue)) (side_plan plan side).windows (side_plan plan side).cap at len lies.window (omega (arith, fits, within))

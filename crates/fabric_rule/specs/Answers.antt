@@ -31,7 +31,7 @@ of_refusal NotUp = answer.NotUp
 of_refusal NotClosing = answer.NotClosing
 of_refusal SessionsSpent = answer.Spent
 
--- the refusal, where there is one
+-- the refusal, if there is one
 abbrev pub of_link : Option LinkRefusal → Answer → Answer
 of_link None done = done
 of_link (Some refusal) done = of_refusal refusal

@@ -29,7 +29,7 @@ pub record IsFreshQueue (devs : List DevPlan) (plan : PairPlan) (k : ℕ) (side 
   pub accepted : part.accepted ≡ []
   pub delivered : part.delivered ≡ []
 
--- a pair before any step, where these pages are promised
+-- a pair before any step, if these pages are promised
 pub record IsFreshPair (devs : List DevPlan) (plan : PairPlan) (k : ℕ) (pages : Both (List ℕ)) (state : PairState) : Type 0 where
   pub bridge : state.bridge ≡ fresh_bridge plan pages
   pub all_queues : (side : Side) → length (queues_of state side) ≡ (side_plan plan side).queues

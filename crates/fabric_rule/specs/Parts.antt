@@ -28,7 +28,7 @@ one_more (one ∷ counts) session =
 
 pub record QueuePart : Type 0 where
   pub queue : QueueState
-  -- of the device on the queue, where there is one; the counts are kept of each queue
+  -- of the device on the queue, if there is one; the counts are kept of each queue
   pub flow : Flow
   pub counters : Counters
   -- the frames accepted on the lane that the side sends on the queue, and those delivered on the lane that it receives

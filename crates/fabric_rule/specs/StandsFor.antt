@@ -34,7 +34,7 @@ use Rattle.fabric_rule.specs.Parts.{PairState, QueuePart, count_in, no_queue, pl
 
 -- Writes in flight
 
--- the entry whose write a label is, of those that a side sent on each queue
+-- the sent entry that a labelled write belongs to, by queue
 abbrev pub fabric_entry_among : (ℕ → List Entry) → Label → Entry
 fabric_entry_among sent (Chunk queue n part) = slice_index_or (sent queue) n GoesDown
 fabric_entry_among sent (Len queue n) = slice_index_or (sent queue) n GoesDown

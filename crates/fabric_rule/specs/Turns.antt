@@ -80,7 +80,7 @@ pub record QueueTurn : Type 0 where
   pub part : QueuePart
   pub bridge : Bridge
 
--- the frame is counted in the pair's session, where it was begun
+-- the frame is counted in the pair's session, if it was begun
 abbrev pub accepted_where_begun : Answer → ℕ → QueuePart → QueuePart
 accepted_where_begun (OkNumber number) session part = record part { accepted = one_more part.accepted session }
 accepted_where_begun answer session part = part

@@ -45,7 +45,7 @@ carries_is largest (Some bytes) piece among = sym (ap carries_bytes (piece_at la
 
 -- Writes
 
--- An entry under way takes at most 516 writes, where a payload has at most 65,536 bytes.
+-- An entry under way takes at most 516 writes, if a payload has at most 65,536 bytes.
 pub few_writes : (largest : ℕ) (frame : Option (List ℕ)) (piece : ℕ) → largest ≤ 65536 → piece < length (entries_under largest frame)
     → port_writes_in (entry_at (entries_under largest frame) piece) ≤ 516
 few_writes largest None zero few among = omega arith

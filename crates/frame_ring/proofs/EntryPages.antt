@@ -31,7 +31,7 @@ size_fits : (plan : PairPlan) (side : Side) → SizesFit plan → (side_plan pla
 size_fits plan A fit = fit.0
 size_fits plan B fit = fit.1
 
--- A range within a side's window size lies in the peer's memory, where sizes fit and ranges within the peer's cap do.
+-- A range within a side's window size lies in the peer's memory, if sizes fit and ranges within the peer's cap do.
 pub lies_inside : (rings : QueueOf) (pair : Bridge) (peer : Side) (at offset len : ℕ) → IsBridge pair → pair.plan ≡ rings.plan → peer ≡ other_side rings.side → SizesFit rings.plan
     → offset + len ≤ (side_plan rings.plan rings.side).size
     → ((len : ℕ) → offset + len ≤ (side_plan rings.plan peer).cap → at + len ≤ memory_size rings.plan peer)

@@ -12,7 +12,7 @@ use Rattle.pair_model.specs.Sizes.{layout_of}
 use Rattle.ring_geometry.specs.Geometry.{window_of}
 use Rattle.frame_ring.specs.PortView.{IsReadyToLand, reaches}
 
--- A queue's write through a window that the peer has arrives on promised pages, where it is ready to land.
+-- A queue's write through a window that the peer has arrives on promised pages, if it is ready to land.
 pub ready_to_post : (plan seen : PairPlan) (side from : Side) (queue : ℕ) (bridge : Bridge) (window offset : ℕ) (bytes : List ℕ)
     → seen ≡ plan → from ≡ side → window ≡ window_of (layout_of plan side queue)
     → true ≡ reaches plan side (window_of (layout_of plan side queue))

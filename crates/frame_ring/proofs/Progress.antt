@@ -119,7 +119,7 @@ begun_is (first ∷ others) queue told sending some =
     let number : sending.begun + 1 - 1 ≡ sending.begun = omega arith in
     ap (λ n. record { begun = sending.begun + 1; told = told; entry = first; todo = labels_of queue n first; waiting = others }) number
 
--- Entries, where there is one at least, take four writes at least.
+-- Entries, if there is one at least, take four writes at least.
 pub some_writes : (entries : List Entry) → 0 < length entries → 4 ≤ all_writes_in entries
 some_writes [] some = absurd (omega arith)
 some_writes (entry ∷ entries) some = omega arith

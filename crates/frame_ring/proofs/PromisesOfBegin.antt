@@ -58,7 +58,7 @@ pub own_pages : (bridge : Bridge) (side : Side) (pages : List ℕ) (more : ℕ) 
 own_pages bridge A pages more = refl
 own_pages bridge B pages more = refl
 
--- A port that begins entries still has its pages promised, where the peer's pages grew to hold all that these need.
+-- A port that begins entries still has its pages promised, if the peer's pages grew to hold all that these need.
 pub begun_ready : (port : PortState) (rings : QueueOf) (after : Sending) (entries : List Entry) (own peer new : List ℕ) (touched : ℕ → Type 0)
     → rings.plan ≡ port.plan → rings.side ≡ port.side → rings.queue ≡ port.queue
     → left_of_entry after.entry after.todo ++ writes_from port.queue after.begun after.waiting ≡ writes_from port.queue port.sending.begun entries
@@ -169,7 +169,7 @@ from_is port from idle is = omega (arith, is, none_waits port.sending idle)
 abbrev pub pieces_seen : PortState → List ℕ → List Entry
 pieces_seen port frame = pieces_of (sizes_seen port).largest frame
 
--- A port that isn't busy begins a frame as its pieces, where their pages and room for their writes are promised.
+-- A port that isn't busy begins a frame as its pieces, if their pages and room for their writes are promised.
 pub frame_begins : (port : PortState) (frame : List ℕ) (pair mid new : Bridge) (from seen count : ℕ) → is_port_busy port.sending ≡ false → from ≡ port.sending.begun + length port.sending.waiting
     → seen ≡ (sizes_seen port).largest → count ≡ all_writes_in (pieces_of seen frame)
     → mid ≡ with_pages pair (other_side port.side) (pages_of mid (other_side port.side))
@@ -207,7 +207,7 @@ frame_sent port frame sender new is queue largest after =
 
 -- A link-down entry
 
--- A port that isn't busy begins a link-down entry, where its pages and room for its four writes are promised.
+-- A port that isn't busy begins a link-down entry, if its pages and room for its four writes are promised.
 pub down_begins : (port : PortState) (pair mid new : Bridge) (from : ℕ) → is_port_busy port.sending ≡ false → from ≡ port.sending.begun + length port.sending.waiting
     → mid ≡ with_pages pair (other_side port.side) (pages_of mid (other_side port.side))
     → PagesGrow (TouchesEntry (rings_of port) from 0) (pages_of pair (other_side port.side)) (pages_of mid (other_side port.side))

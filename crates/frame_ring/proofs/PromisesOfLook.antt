@@ -55,7 +55,7 @@ pub writes_still : (plan : PairPlan) (side : Side) (touched : ℕ → Type 0) (o
 writes_still plan side touched old new lefts grow all =
     All-weaker (IsLeftReady plan side old) (IsLeftReady plan side new) (λ (left : Left) (h : IsLeftReady plan side old left). write_still plan side touched old new (entry_write plan side left.entry left.label) grow h) lefts all
 
--- A port that finds an entry has its pages promised, where those of the entry's flags and index write are.
+-- A port that finds an entry has its pages promised, if those of the entry's flags and index write are.
 pub found_ready : (port : PortState) (len left : ℕ) (own peer own_new peer_new : List ℕ) (touched : ℕ → Type 0)
     → PagesGrow touched peer peer_new → ArePromised (own_header port.plan port.side port.queue port.receiving.got + flags_offset port.plan) 4 own_new
     → IsReadyToLand port.plan port.side peer_new (index_write port.plan port.side port.queue port.receiving.got)

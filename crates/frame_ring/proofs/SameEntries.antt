@@ -31,7 +31,7 @@ rest_pieces largest bytes (suc more) piece all =
     ∙ ap (λ entry. entry ∷ drop (piece + 1) (pieces_of largest bytes)) (piece_at largest bytes piece among ∙ ap (λ n. Carries (take largest rest) n) left)
     ∙ ap (λ others. Carries (take largest rest) more ∷ others) (rest_pieces largest bytes more (piece + 1) (omega (arith, all)) ∙ ap (λ bytes. pieces_over largest bytes more) (sym later))
 
--- the same pieces are of the same bytes, where they have all of them
+-- the same pieces are of the same bytes, if they have all of them
 same_rest : (largest more n : ℕ) (rest others : List ℕ) → length rest ≤ largest * more → length others ≤ largest * n
     → pieces_over largest rest more ≡ pieces_over largest others n → rest ≡ others
 same_rest largest zero zero [] [] fit fits same = refl

@@ -65,7 +65,7 @@ flags_cleared bridge side queue n =
 
 -- Promises
 
--- the pages of what a write stores at the peer are promised there, where the peer has its window
+-- the pages of what a write stores at the peer are promised there, if the peer has its window
 abbrev pub IsReadyToLand : PairPlan → Side → List ℕ → WindowWrite → Type 0
 IsReadyToLand plan side pages write = reaches plan side write.window ≡ true → ArePromised (store_of_write plan side write).at (length write.bytes) pages
 

@@ -13,7 +13,7 @@ port_seen port = record { plan = port.rings.plan; side = port.rings.side; queue 
 pub record IsPort (port : Inside) : Type 0 where
   pub queue : port.sender.queue ≡ port.rings.queue
   pub largest : port.sender.largest ≡ (sizes_of port.rings.plan port.rings.side port.rings.queue).largest
-  -- the rings lie in the memories, where something is under way in them
+  -- the rings lie in the memories, if something is under way in them
   pub sends : is_port_busy port.sender.sending ≡ true → SizesFit port.rings.plan
   pub receives : is_idle port.receiver.phase ≡ false → SizesFit port.rings.plan
   pub fits : is_copying port.receiver.phase ≡ true → port.receiver.len ≤ max_payload_of (layout_to port.rings.plan port.rings.side port.rings.queue)

@@ -82,7 +82,7 @@ impl Gathered {
         self.filled = end;
     }
 
-    /// Returns the frame of all bytes gathered, where no room is left for more.
+    /// Returns the frame of all bytes gathered, if no room is left for more.
     pub fn deliver(&mut self) -> Frame
         requires { self.old.room ≡ 0 }
         ensures frame { result ≡ self.old.bytes }

@@ -33,8 +33,8 @@ use step_kinds::{Begun, Frame, Label, LaneCopy, PairPlan, Side};
 ///
 /// Every call that takes a pair has to be given one of the port's plan. What a begin, a going down or a look promised,
 /// and the port hasn't used yet, has to be there when it is used. That is room for its writes among those that the side
-/// has promised, and the pages that they write to. Other calls on the pair leave both, where they use and give back
-/// only what they promised themselves.
+/// has promised, and the pages that they write to. Other calls on the pair leave both, if they use and give back only
+/// what they promised themselves.
 ///
 /// To begin, to look or find, and to ask what these answer, each side's `size` has to be at most the peer's `cap`.
 /// Unless the pair is raw, both sides also need as many queues and as many windows.
@@ -68,8 +68,8 @@ impl Port {
         }
     }
 
-    /// Begins a frame, of one byte at least: as one entry, or on version 5 as many as its bytes fill. Room for all its
-    /// writes is promised, and the pages that they write to.
+    /// Starts sending a frame of at least one byte: one ring entry, or on version 5 as many as it needs. Room for all
+    /// its writes is promised, and the pages that they write to.
     ///
     /// It is refused for one of three reasons, tested in this order. A refusal changes nothing and drops the frame.
     ///

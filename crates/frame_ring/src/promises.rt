@@ -26,9 +26,8 @@ use std::alloc::AllocError;
 use step_kinds::Frame;
 
 impl QueueRings {
-    /// Promises the pages of this many bytes at the peer, from an offset of the queue's window on, where the peer has
-    /// the window. Returns an error if memory runs out. Some of these pages may then be promised, and nothing else
-    /// changes.
+    /// Promises the pages of this many bytes at the peer, from an offset of the queue's window on, if the peer has the
+    /// window. Returns an error if memory runs out. Some of these pages may then be promised, and nothing else changes.
     pub fn promise_bytes(&self, pair: &mut Pair, offset: u64, len: u64) -> Result<(), AllocError>
         requires plan { pair.old.plan ≡ self.now.plan }
         requires fit { SizesFit self.now.plan }

@@ -139,7 +139,7 @@ pub fn index_word(rings: &QueueRings, pair: &Pair) -> u32
     word(rings, pair, index_word_at(rings))
 }
 
-/// Returns the index word of the lane that the side sends, where the sides' windows fit, so that it lies in the side's
+/// Returns the index word of the lane that the side sends, if the sides' windows fit, so that it lies in the side's
 /// memory.
 pub fn tail(rings: &QueueRings, pair: &Pair) -> u32
     requires plan { pair.now.plan ≡ rings.now.plan }

@@ -163,7 +163,7 @@ impl Sender {
         self.pieces - 1 - self.piece
     }
 
-    /// The next write of the entry at hand was posted, where one was left; with the last one of a frame it is let go.
+    /// The next write of the entry at hand was posted, if one was left; with the last one of a frame it is let go.
     pub fn posted(&mut self)
         requires { is_empty_list self.old.sending.todo ≡ true → is_empty_list self.old.sending.waiting ≡ true }
         ensures { self.new ≡ with_progress self.old (let_go (record self.old.sending { todo = rest_of self.old.sending.todo })) }

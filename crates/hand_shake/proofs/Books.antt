@@ -21,7 +21,7 @@ pub with_joined : (plan : PairPlan) (side : Side) (book : SideBook) (queue bits 
     → IsBook plan side (record book { joined = bits })
 with_joined plan side book queue bits fits among is = rw is (record { ready = fits.ready; joined = still_below book.joined queue (side_plan plan side).queues fits.joined among; offered = fits.offered })
 
--- A book that fits its side's plan still fits with one scratchpad more offered, where some of the offer was left.
+-- A book that fits its side's plan still fits with one scratchpad more offered, if some of the offer was left.
 pub with_offered : (plan same : PairPlan) (side : Side) (book : SideBook) → same ≡ plan → IsBook plan side book → book.offered < offer_length plan side
     → IsBook same side (record book { offered = book.offered + 1 })
 with_offered plan same side book plans fits left = rw plans (record { ready = fits.ready; joined = fits.joined; offered = omega (arith, left) })

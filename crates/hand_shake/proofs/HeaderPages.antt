@@ -73,7 +73,7 @@ header_back plan same side ring n later last slot gap plans is_ring fits least w
     let gaps : gap * slot ≡ (later - n) * frame_size l = ap (λ (g : ℕ). g * slot) is_gap ∙ ap (λ (s : ℕ). (later - n) * s) size in
     (omega (arith, at, row, gaps), omega (arith, at, row, gaps))
 
--- a fact of the plan and of a side's bytes, where only pages were promised since
+-- a fact of the plan and of a side's bytes, if only pages were promised since
 pub seen_again : (old new : Bridge) (side : Side) (P : PairPlan → List ℕ → Type 0) → new ≡ with_pages old side (pages_of new side) → P new.plan (bridge_bytes_of new side) → P old.plan (bridge_bytes_of old side)
 seen_again old new A P same fact = subst (λ (bridge : Bridge). P bridge.plan (bridge_bytes_of bridge A)) same fact
 seen_again old new B P same fact = subst (λ (bridge : Bridge). P bridge.plan (bridge_bytes_of bridge B)) same fact

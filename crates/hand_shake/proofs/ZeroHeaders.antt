@@ -85,7 +85,7 @@ ready_after_rings plan side queue queues mem pages ready = λ n within. elim (re
   | inr promised ↦ inr promised
 ]
 
--- a fact of the plan, of a side's bytes and of its pages, where only bytes were stored since
+-- a fact of the plan, of a side's bytes and of its pages, if only bytes were stored since
 pub stored_again : (old new : Bridge) (side : Side) (bytes : List ℕ) (P : PairPlan → List ℕ → List ℕ → Type 0) → new ≡ with_bytes old side bytes → P old.plan bytes (pages_of old side)
     → P new.plan (bridge_bytes_of new side) (pages_of new side)
 stored_again old new A bytes P same fact = subst (λ (bridge : Bridge). P bridge.plan (bridge_bytes_of bridge A) (pages_of bridge A)) (sym same) fact

@@ -65,6 +65,6 @@ after_check bridge side = after_check_answer bridge side (check_answer bridge si
 abbrev pub TouchesAnyRing : PairPlan → Side → List ℕ → ℕ → Type 0
 TouchesAnyRing plan side bytes page = TouchesHeader plan side bytes page ⊎ TouchesIndexWord plan side page
 
--- the pages that a check promises, where it comes up
+-- the pages that a check promises, if it comes up
 abbrev pub TouchesRings : Bridge → Side → ℕ → Type 0
 TouchesRings bridge side page = (check_answer bridge side ≡ Up) × TouchesAnyRing bridge.plan side (bridge_bytes_of bridge side) page

@@ -45,7 +45,7 @@ pub fn ready(pair: &mut Pair, side: Side, queue: u32) -> Result<ReadyAnswer, All
     Ok(ReadyAnswer::Ok)
 }
 
-/// A side joins a queue that it has said to be ready, where the peer has said so too: the queue joins the side's joined
+/// A side joins a queue that it has said to be ready, if the peer has said so too: the queue joins the side's joined
 /// set, and frames may go. The queue has to be one of the side's. It takes no memory.
 pub fn join(pair: &mut Pair, side: Side, queue: u32) -> JoinAnswer
     requires { queue < (side_plan pair.old.plan side).queues }

@@ -1,4 +1,4 @@
--- Ranges of a memory that lie on one page: their bytes, where the page is there and where it isn't.
+-- Ranges of a memory that lie on one page: their bytes, if the page is there and where it isn't.
 use Rattle.std.proofs.Common.{◌≡◌, ◌↔◌, IsTrue, ℕ, ◌+◌, ◌-◌, ◌/◌, ◌%◌, ◌≤◌, Some, None, Bool, List, length, get_or, replicate, take, refl, sym, ap, ◌∙◌, arith}
 use borrow.Rule.Slice.PartMut.{mid_of}
 use Rattle.std.specs.Global.{Box}

@@ -12,7 +12,7 @@ slice_get-set_same [] i x within = absurd (omega (arith, within))
 slice_get-set_same (y ∷ ys) zero x within = refl
 slice_get-set_same (y ∷ ys) (suc i) x within = slice_get-set_same ys i x (omega (arith, within))
 
--- the page of a number, where its group is known
+-- the page of a number, if its group is known
 pub page_in_group : (groups : List Group) (group : Group) (number : ℕ) → number / 512 < length groups → group ≡ get_or groups (number / 512) group
     → page_at groups number ≡ get_or group.items (number % 512) None
 page_in_group groups group number within read =

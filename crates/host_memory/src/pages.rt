@@ -44,7 +44,7 @@ impl Pages {
         Ok(Pages { groups, alloc })
     }
 
-    /// Returns the page of this number, where it is there.
+    /// Returns the page of this number, if it is there.
     #[inline]
     pub fn get(&self, number: u64) -> Option<&Page>
         ensures { option_copied result ≡ page_at self.now.groups.items number }
@@ -121,7 +121,7 @@ fn copy_of_group(group: &Group, alloc: Global) -> Result<Group, AllocError>
     Ok(places)
 }
 
-// Returns a page with the same bytes, where there is one.
+// Returns a page with the same bytes, if there is one.
 fn copy_of_page(page: &Option<Page>, alloc: Global) -> Result<Option<Page>, AllocError>
     ensures { IfOk result (λ copy. page_bytes copy ≡ page_bytes page.now) }
 {

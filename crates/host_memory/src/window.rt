@@ -14,8 +14,8 @@ pub struct Window {
 }
 
 impl Window {
-    /// Returns the address of the window's byte `offset`, counted from 0, where the `len` bytes from there on lie in
-    /// the window. The answer is `None` if and only if `offset + len` is above the window's size. No bytes lie in the
+    /// Returns the address of the window's byte `offset`, counted from 0, if the `len` bytes from there on lie in the
+    /// window. The answer is `None` if and only if `offset + len` is above the window's size. No bytes lie in the
     /// window also at its end. The window has to end below 2^64.
     pub fn translate(&self, offset: u64, len: u64) -> Option<u64>
         requires { self.now.base + self.now.size < 2 ^ 64 }

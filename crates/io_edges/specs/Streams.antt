@@ -1,4 +1,4 @@
--- What one read and one write do to the bytes of a stream, where those are told (`Some`).
+-- What one read and one write do to the bytes of a stream, if those are told (`Some`).
 use Rattle.std.specs.Prelude.{◌≡◌, ◌⊎◌, ℕ, ◌≤◌, List, [], ◌++◌, length, take, drop, MatchResult, Option, Result, Some, None}
 
 -- The buffer begins with the first bytes of the content, this many, and the others are left. There are none only if the

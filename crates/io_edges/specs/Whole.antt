@@ -1,4 +1,4 @@
--- What is left of a source, and what a sink holds, after many reads or writes, where it is told (`Some`).
+-- What is left of a source, and what a sink holds, after many reads or writes, if it is told (`Some`).
 use Rattle.std.specs.Prelude.{◌≡◌, ℕ, ◌+◌, ◌<◌, ◌≤◌, List, ◌++◌, length, take, Option, Some, None}
 
 -- These bytes were the front of the content, and what is left is the rest of it. Content that isn't told stays so.

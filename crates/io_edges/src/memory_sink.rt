@@ -21,8 +21,8 @@ pub struct MemorySink {
 
 impl MemorySink {
     /// Returns an empty sink for `room` bytes, which are reserved here. `piece` is the most bytes that a write takes,
-    /// and `fails` has the numbers of the writes that fail, where the first is 0. Each of them raises the count of
-    /// faults, and so does a write that can take nothing of a piece that isn't empty.
+    /// and `fails` has the numbers of the writes that fail, if the first is 0. Each of them raises the count of faults,
+    /// and so does a write that can take nothing of a piece that isn't empty.
     ///
     /// # Errors
     ///

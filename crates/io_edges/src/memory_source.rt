@@ -19,7 +19,7 @@ pub struct MemorySource {
 
 impl MemorySource {
     /// Returns a source of these bytes. `piece` is the most bytes that a read gives, 1 at least, and `fails` has the
-    /// numbers of the reads that fail, where the first is 0. Each of them raises the count of faults.
+    /// numbers of the reads that fail, if the first is 0. Each of them raises the count of faults.
     pub fn new(bytes: Vec<u8>, piece: usize, fails: Vec<u64>) -> MemorySource
         requires { 1 ≤ piece }
         ensures { result ≡ record {

@@ -47,7 +47,7 @@ impl<R: Read> Source for StdStream<R> {
         ensures bytes { Reads None None result out.new }
         ensures cause { HasCause (faults_of self.old) (faults_of self.new) result }
 
-        // What the reader itself has left, where that is known.
+        // What the reader itself has left, if that is known.
         ensures reader { ReadConsumes (R.remaining (inner_of self.old)) (R.remaining (inner_of self.new)) result out.new }
         ensures count { CountsErrors (faults_of self.old) (faults_of self.new) result }
     {
@@ -76,7 +76,7 @@ impl<W: Write> Sink for StdStream<W> {
         ensures bytes { Writes None None result bytes.now }
         ensures cause { HasCause (faults_of self.old) (faults_of self.new) result }
 
-        // What the writer itself holds, where that is known.
+        // What the writer itself holds, if that is known.
         ensures writer { WriteAppends (W.contents (inner_of self.old)) (W.contents (inner_of self.new)) result bytes.now }
         ensures count { CountsErrors (faults_of self.old) (faults_of self.new) result }
     {

@@ -10,15 +10,15 @@ use thiserror::Error;
 #[error("the stream failed")]
 pub struct Failed;
 
-/// A source of bytes. It tells the bytes that are left, where it can, and a count of faults that never falls.
+/// A source of bytes. It tells the bytes that are left, if it can, and a count of faults that never falls.
 pub trait Source {
-    /// The bytes that reads will give from here on, where they are told.
+    /// The bytes that reads will give from here on, if they are told.
     ghost left: { Self → Option (List ℕ) };
 
     /// How often the source has failed, up to the last value of a `u64`.
     ghost faults: { Self → ℕ };
 
-    /// How often it was read from, where it counts that; else always 0.
+    /// How often it was read from, if it counts that; else always 0.
     ghost reads: { Self → ℕ } = { λ _. 0 };
 
     /// Reads some bytes into the front of the buffer and returns their number, at most the buffer's length. With room
@@ -35,15 +35,15 @@ pub trait Source {
         ensures reads { reads self.new ≤ reads self.old + 1 };
 }
 
-/// A sink of bytes. It tells the bytes that it holds, where it can, and a count of faults that never falls.
+/// A sink of bytes. It tells the bytes that it holds, if it can, and a count of faults that never falls.
 pub trait Sink {
-    /// The bytes that writes have put into it, where they are told.
+    /// The bytes that writes have put into it, if they are told.
     ghost held: { Self → Option (List ℕ) };
 
     /// How often the sink has failed, up to the last value of a `u64`.
     ghost faults: { Self → ℕ };
 
-    /// How often it was written to, where it counts that; else always 0.
+    /// How often it was written to, if it counts that; else always 0.
     ghost writes: { Self → ℕ } = { λ _. 0 };
 
     /// Takes some bytes from the front of the piece and returns their number: at least one of a piece that isn't empty.

@@ -58,12 +58,12 @@ orders_seen is_strict (w ∷ writes) each =
 
 -- What the model's lane answers
 
--- The model's lane answers that the write at a place landed, with its label, where it may land.
+-- The model's lane answers that the write at a place landed, with its label, if it may land.
 pub answer_landed : (value : LaneValue) (place : ℕ) (mark : Write) → slice_get value.lane.flight place ≡ Some mark → may_land_in value place ≡ true
     → core_land_answer value place ≡ Landed (label_in value.queue value.lane mark)
 answer_landed value place mark found lands = ap (core_land_found value place) found ∙ cond-true _ _ _ lands
 
--- The model's lane after a landing at a place is the one with that write landed and out of flight, where it may land.
+-- The model's lane after a landing at a place is the one with that write landed and out of flight, if it may land.
 pub after_landed : (value : LaneValue) (place : ℕ) (mark : Write) → slice_get value.lane.flight place ≡ Some mark → may_land_in value place ≡ true
     → core_after_land value place ≡ after_landing value.lane mark (remove value.lane.flight place)
 after_landed value place mark found lands = ap (after_found value place) found ∙ cond-true _ _ _ lands

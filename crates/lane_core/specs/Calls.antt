@@ -49,7 +49,7 @@ after_beginning lane entry answer = lane
 
 -- Posting
 
--- the number of the entry that a write belongs to, where it has one
+-- the number of the entry that a write belongs to, if it has one
 abbrev pub core_number_of : Write → ℕ
 core_number_of (Data n field) = n
 core_number_of (Flag n) = n

@@ -91,7 +91,7 @@ pub fn fill_todo(todo: &mut VecDeque<Write>, number: u64, entry: &Entry)
     todo.push_back_reserved(Write::Bell);
 }
 
-/// Returns how many entries have their flags landed by this write: one, where it is an entry's flags.
+/// Returns how many entries have their flags landed by this write: one, if it is an entry's flags.
 pub fn landed_flags(mark: Write) -> u64
     ensures { result ≡ core_flags_landed mark }
 {

@@ -11,7 +11,7 @@ use Rattle.lane_model.specs.declared.Write.TheVariants.{Data}
 use Rattle.lane_model.specs.Law.{Stands, StandsWhole}
 use Rattle.lane_laws.proofs.Numbers.{length-count_from, get_or-count_from}
 
--- Writing bytes over a part of a list, where they fit within it, leaves the list as long as it was.
+-- Writing bytes over a part of a list, if they fit within it, leaves the list as long as it was.
 pub length-overwritten : (at : ℕ) (bytes old : List ℕ) → at + length bytes ≤ length old → length (overwritten at bytes old) ≡ length old
 length-overwritten at bytes old fits =
     let a = length-append (take at old ++ bytes) (drop (at + length bytes) old) in

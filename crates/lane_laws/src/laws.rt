@@ -15,13 +15,13 @@ pub fn fresh_holds()
     ensures { FreshHolds }
 {}
 
-/// Beginning an entry keeps the law, where no write is left to post and head and index word show a free entry. The
-/// payload has to fit a slot, and no link-down entry may have been begun before.
+/// Beginning an entry keeps the law, if no write is left to post and head and index word show a free entry. The payload
+/// has to fit a slot, and no link-down entry may have been begun before.
 pub fn begin_keeps()
     ensures { BeginKeeps }
 {}
 
-/// Posting the next write keeps the law, where one is left to post, on a link that is up and on one that was lost.
+/// Posting the next write keeps the law, if one is left to post, on a link that is up and on one that was lost.
 pub fn post_keeps()
     ensures { PostKeeps }
 {}
@@ -41,7 +41,7 @@ pub fn land_bell_keeps()
     ensures { LandBellKeeps }
 {}
 
-/// Finding an entry keeps the law, where the receiver is idle and the entry has its flags.
+/// Finding an entry keeps the law, if the receiver is idle and the entry has its flags.
 pub fn look_keeps()
     ensures { LookKeeps }
 {}
@@ -71,12 +71,12 @@ pub fn cut_keeps()
     ensures { CutKeeps }
 {}
 
-/// Dropping what was in flight keeps the law, where the link was lost.
+/// Dropping what was in flight keeps the law, if the link was lost.
 pub fn drop_keeps()
     ensures { DropKeeps }
 {}
 
-/// Forgetting what is left to post keeps the law, where the link was lost: it counts with what was lost.
+/// Forgetting what is left to post keeps the law, if the link was lost: it counts with what was lost.
 pub fn forget_keeps()
     ensures { ForgetKeeps }
 {}

@@ -7,7 +7,7 @@ pub length-count_from : (from more : ℕ) → length (count_from from more) ≡ 
 length-count_from from zero = refl
 length-count_from from (suc more) = ap suc (length-count_from (suc from) more)
 
--- Element k of a list of consecutive numbers is the first number plus k, where k is below the list's length.
+-- Element k of a list of consecutive numbers is the first number plus k, if k is below the list's length.
 pub get_or-count_from : (from more k d : ℕ) → k < more → get_or (count_from from more) k d ≡ from + k
 get_or-count_from from zero k d below = absurd (omega arith)
 get_or-count_from from (suc more) zero d below = omega arith

@@ -131,7 +131,7 @@ pub data Owner : Type 0 where
   -- its index write was posted and has not landed
   Returning : Owner
 
--- the owner of the slot of entry n, where n was begun and not given back; of any other number it says the sender
+-- the owner of the slot of entry n, if n was begun and not given back; of any other number it says the sender
 abbrev pub owner_of : Lane → ℕ → Owner
 owner_of lane n =
     if nat_lt n lane.freed then Sender

@@ -50,7 +50,7 @@ impl Fdb {
         Ok(Fdb { stations })
     }
 
-    /// Returns the port on which a station was seen last, where it is known. It looks at each station.
+    /// Returns the port on which a station was seen last, if it is known. It looks at each station.
     pub fn lookup(&self, address: &[u8; 6]) -> Option<u32>
         ensures { result ≡ lookup self.now address.now }
     {

@@ -79,7 +79,7 @@ impl FrameQueue {
         Ok(FrameQueue { frames })
     }
 
-    /// Drops the first frame, where there is one. It takes no memory.
+    /// Drops the first frame, if there is one. It takes no memory.
     pub fn drop_first(&mut self)
         ensures { self.new ≡ drop 1 self.old }
     {

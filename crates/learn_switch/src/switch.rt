@@ -179,7 +179,7 @@ fn are_same_queues(queues: &[FrameQueue], others: &[FrameQueue]) -> bool
     true
 }
 
-// Returns the addresses of a frame, where it has an Ethernet header.
+// Returns the addresses of a frame, if it has an Ethernet header.
 fn header_of(frame: &Frame) -> Result<Header, Short>
     ensures short { IfErr result (λ short. (length frame.now < ethernet_header) × (short.len ≡ length frame.now)) }
     ensures header { IfOk result (λ header. (ethernet_header ≤ length frame.now) × (header.dst ≡ destination frame.now) × (header.src ≡ source frame.now)) }

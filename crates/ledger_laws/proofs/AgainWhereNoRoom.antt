@@ -86,8 +86,8 @@ is_up_now : (up : Bool) → not up ≡ false → up ≡ true
 is_up_now true e = refl
 is_up_now false e = absurd (false≢true (sym e))
 
--- what a step that begins on a lane answers, where it is refused for another reason or not, and the room on that lane
--- is this
+-- what a step that begins on a lane answers, if it is refused for another reason or not, and the room on that lane is
+-- this
 abbrev AgainSo : Bool → Bool → Answer → Type 0
 AgainSo early full answer = is_again answer ≡ (not early && full)
 

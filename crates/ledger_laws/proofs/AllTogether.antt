@@ -60,7 +60,7 @@ has_sides plan declared k B below = in_range (pair_plan plan k).b (declared.pair
 
 -- Together
 
--- All laws of a log hold of the steps that a declared plan permits, where memories keep pairs apart.
+-- All laws of a log hold of the steps that a declared plan permits, if memories keep pairs apart.
 pub laws_hold : LawsHold
 laws_hold plan memories steps declared permitted apart = record {
   in_order = λ lane session ordinary. every_log_is_in_order plan memories steps lane session ordinary;

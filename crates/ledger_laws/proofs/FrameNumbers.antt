@@ -18,8 +18,7 @@ use Rattle.ledger_laws.proofs.walk.News.{News, Tells}
 use Rattle.ledger_laws.proofs.walk.Sight.{Sight}
 use Rattle.ledger_laws.proofs.walk.Turn.{Turn, Hand, Trains, Strays, CopiesLast}
 
--- what was delivered in a session, where the lane's session is `now` and its receiver has put together `done` frames in
--- it
+-- what was delivered in a session, if the lane's session is `now` and its receiver has put together `done` frames in it
 record DoneBy (session now done : ℕ) (given : List Numbered) : Type 0 where
   later : now < session → given ≡ []
   counted : now ≡ session → length given ≡ done

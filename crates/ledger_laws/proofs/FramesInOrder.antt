@@ -90,7 +90,7 @@ frame_behind sent pieces told bytes number rest one = record {
       ∙ ap (λ r. frames_from 0 [] sent ++ frames_from told r pieces) rest ∙ ap (λ frames. frames_from 0 [] sent ++ frames) one.frames;
 }
 
--- what is so of the entries that were begun and are to come is so of those that were begun, where none is to come
+-- what is so of the entries that were begun and are to come is so of those that were begun, if none is to come
 pub alone : {X : Type 0} (read : List Entry → X) (sent coming : List Entry) → coming ≡ [] → read sent ≡ read (sent ++ coming)
 alone read sent coming none = ap read (sym (append-nil sent) ∙ ap (λ more. sent ++ more) (sym none))
 

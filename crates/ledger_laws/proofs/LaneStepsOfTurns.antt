@@ -1,5 +1,5 @@
--- The steps of the lane's model that each turn is, where the ring is as the log leaves it and both sides are up before
--- and after.
+-- The steps of the lane's model that each turn is, if the ring is as the log leaves it and both sides are up before and
+-- after.
 use Rattle.std.proofs.Common.{◌≡◌, ℕ, suc, ◌+◌, ◌<◌, ◌≤◌, ◌==◌, Bool, true, false, Some, None, List, [], ◌∷◌, ◌++◌, length, take, drop, refl, sym, ap, ◌∙◌, subst, inl, inr, arith}
 use Rattle.std.specs.Prelude.{if◌then◌else◌, remove, nat_lt}
 use Rattle.std.specs.List.{AllByRecursion}

@@ -31,7 +31,7 @@ use Rattle.ledger_laws.proofs.walk.Sight.{Sight}
 use Rattle.ledger_laws.proofs.walk.News.{News, Tells}
 use Rattle.ledger_laws.proofs.walk.Turn.{Turn, Trains, Breaks, Drops}
 
--- what a made step answers, where the link is up
+-- what a made step answers, if the link is up
 not_down : (up : Bool) → up ≡ true → false ≡ not up
 not_down up e = rw e refl
 

@@ -16,7 +16,7 @@ pub up_after-last : (k : ℕ) (now : Bool) (log : List Answered) (made : Answere
 up_after-last k now [] made = refl
 up_after-last k now (first ∷ log) made = up_after-last k (up_step k first now) log made
 
--- the session in which a pair is after a log, where it was in session `now`
+-- the session in which a pair is after a log, if it was in session `now`
 abbrev pub session_at : ℕ → ℕ → List Answered → ℕ
 session_at k now [] = now
 session_at k now (made ∷ log) = session_at k (if trains k made then now + 1 else now) log

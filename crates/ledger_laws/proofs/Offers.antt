@@ -27,7 +27,7 @@ offer_of label = None
 abbrev pub offers_in : List Label → List Label
 offers_in labels = filter_map offer_of labels
 
--- the value that the last write in a list put into a scratchpad, where it was `now`
+-- the value that the last write in a list put into a scratchpad, if it was `now`
 abbrev pub last_value : ℕ → Option ℕ → List Label → Option ℕ
 last_value i now [] = now
 last_value i now (Pad j value ∷ rest) = last_value i (if j == i then Some value else now) rest
@@ -236,7 +236,7 @@ begins_cases (y ∷ landed) rest (z ∷ init) x e =
 offers-last : (own : SidePlan) → offers own ≡ before_version own ++ Pad version_pad own.version ∷ []
 offers-last own = sym (append_assoc (windows_from own 0 own.windows) (Pad windows_pad own.windows ∷ Pad queues_pad own.queues ∷ []) (Pad version_pad own.version ∷ []))
 
--- what landed of an offer is the whole, where the version landed
+-- what landed of an offer is the whole, if the version landed
 pub whole_landed : (own : SidePlan) (landed flight : List Label) (offered : ℕ) → landed ++ flight ≡ take offered (offers own) → (last_value version_pad None landed ≡ None → ⊥) → landed ≡ offers own
 whole_landed own landed flight offered order some = go (begins_cases landed (flight ++ drop offered (offers own)) (before_version own) (Pad version_pad own.version) all)
   where

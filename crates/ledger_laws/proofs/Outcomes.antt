@@ -6,7 +6,7 @@ use Rattle.step_kinds.specs.declared.steps.Answer.{Answer}
 use Rattle.ledger_model.specs.Ledger.{PairPart}
 use Rattle.ledger_model.specs.Outcome.{Outcome, refuse_if, decided}
 
--- a property of the refusal, where there is one
+-- a property of the refusal, if there is one
 pub data Each (P : Answer → Type 0) : Option Answer → Type 0 where
   Nothing : Each P None
   Just : {refusal : Answer} → P refusal → Each P (Some refusal)

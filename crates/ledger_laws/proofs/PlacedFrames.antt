@@ -152,7 +152,7 @@ rises_numbered now (c ∷ cs) up h =
     let here : NumberedFrom own.0 (numbered c ∷ of_session c.origin.session cs) = subst (NumberedFrom own.0) (of_session-here c.origin.session c cs refl) own.1 in
     (all_later c c.origin.session (own.0 + 1) cs (omega arith) up.1 (omega (arith, here.0)) here.1, rises_numbered c.origin.session cs up.1 (numbered_rest c cs h))
 
--- what a reading finds on a lane rises, where each session's is numbered from 0 on
+-- what a reading finds on a lane rises, if each session's is numbered from 0 on
 pub placed_rise : (read : Answered → List Numbered) (lane : LaneName) (now : ℕ) (log : List Answered)
     → ((session : ℕ) → NumberedFrom 0 (flat_map read (made_in lane.pair session now log))) → Rises (λ c d. IsBefore c.origin d.origin) (placed_from read lane now log)
 placed_rise read lane now log numbers =

@@ -45,7 +45,7 @@ module _ {F : Type 0} (read : Switch F → List (List F)) (switches : List (Swit
       get-set_cases (λ s. list_of (read s) other.place ≡ lists_at read switches other) switches port.switch other.switch after (new_switch 0) refl
       (λ here. ap (λ lists. list_of lists other.place) e ∙ ap (λ k. list_of (read (slice_index_or switches k (new_switch 0))) other.place) (sym here))
 
-  -- the port itself has the list that was set, where it had a frame before
+  -- the port itself has the list that was set, if it had a frame before
   pub list-there : (xs : List F) → read after ≡ slice_set (read (switch_of switches port)) port.place xs → (frame : F) (rest : List F) → lists_at read switches port ≡ frame ∷ rest
       → read (new_switch 0) ≡ [] → lists_at read (with_switch switches port after) port ≡ xs
   list-there xs e frame rest some none = elim (get-set_there switches port.switch after (new_switch 0)) [

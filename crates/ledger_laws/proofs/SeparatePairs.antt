@@ -32,7 +32,7 @@ module _ (plan : Plan) (memories : Memories) (pair : ℕ) (no_port : HasNoPort p
   abbrev own_bridge : List Step → List Step
   own_bridge steps = filter is_bridge_step (steps_on pair steps)
 
-  -- one step more adds itself, where it is on the pair and no switch's
+  -- one step more adds itself, if it is on the pair and no switch's
   abbrev Adds : Network (List ℕ) → Step → Action (List ℕ) → Type 0
   Adds net step action = steps_on pair (network_after bytes_kept plan memories net step action).steps ≡ steps_on pair net.steps ++ own_bridge (step ∷ [])
 

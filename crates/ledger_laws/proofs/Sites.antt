@@ -94,7 +94,7 @@ ring_of-last plan memories name steps step = ring_from-last plan memories name [
 abbrev pub site_outcome : Plan → ℕ → List Step → Step → Outcome
 site_outcome plan k steps step = pair_next plan.devs (pair_plan plan k) (bytes_of_site (site_of plan k steps)) (site_of plan k steps).pair step
 
--- is the ledger's, where both show one pair
+-- is the ledger's, if both show one pair
 pub same_outcome : (plan : Plan) (steps : List Step) (step : Step) → (site_of plan (subject_of step) steps).pair ≡ ledger_of plan (memory_of plan) steps (subject_of step)
     → site_outcome plan (subject_of step) steps step ≡ outcome_in plan (memory_of plan (log_of plan (memory_of plan) steps)) (ledger_of plan (memory_of plan) steps) step
 same_outcome plan steps step same =
@@ -122,7 +122,7 @@ any : (steps : List Step) → AllByRecursion (λ step. Unit {0}) steps
 any [] = tt
 any (step ∷ steps) = (tt, any steps)
 
--- The pair that a site keeps beside its stores is the ledger's, where memories show what was stored.
+-- The pair that a site keeps beside its stores is the ledger's, if memories show what was stored.
 pub sites_are_the_ledger : SitesAreTheLedger
 sites_are_the_ledger plan steps k =
     by_steps (λ step. Unit {0}) (ArePairs plan) (λ before step done fits same. one_more plan before step same) (λ j. refl) steps (any steps) k

@@ -43,7 +43,7 @@ pub record ReadAlike (plan : PairPlan) (bytes : Bytes) (now : PairPart) (side : 
 two_alike : {X Y Z : Type 0} (f : X → Y → Z) {a b : X} {c d : Y} → a ≡ b → c ≡ d → f a c ≡ f b d
 two_alike f e g = cc
 
--- a side that is to send is refused before it reads, where the link isn't up or the queue isn't joined
+-- a side that is to send is refused before it reads, if the link isn't up or the queue isn't joined
 sender_decides : (up joined : Bool) (old : PairPart) (x y : Option Answer) (answer : Answer) (m n : PairPart) → (joined ≡ true → (x ≡ y) × (m ≡ n))
     → decided old (refuse_if (not up) LinkDown (refuse_if (not joined) NotReady x)) answer m ≡ decided old (refuse_if (not up) LinkDown (refuse_if (not joined) NotReady y)) answer n
 sender_decides false joined old x y answer m n same = refl

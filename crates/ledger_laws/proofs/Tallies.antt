@@ -77,7 +77,7 @@ pub session_kept : (plan : Plan) (lane : LaneName) (s : Sight) (made : Answered)
 session_kept plan lane s made news t tells (Trains may) = ap (λ b. if b then s.session + 1 else s.session) tells.starts
 session_kept plan lane s made news t tells turn = ap (λ b. if b then s.session + 1 else s.session) tells.starts
 
--- what a log has of a session, with one entry more, where the lane's session is this one
+-- what a log has of a session, with one entry more, if the lane's session is this one
 pub more_found : (plan : Plan) (lane : LaneName) (session : ℕ) (log : List Answered) (made : Answered) (now : ℕ) → session_at lane.pair (first_session plan lane.pair) log ≡ now
     → (read : Answered → List Numbered) → flat_map read (made_in lane.pair session (first_session plan lane.pair) (log ++ made ∷ []))
     ≡ flat_map read (made_in lane.pair session (first_session plan lane.pair) log) ++ added session now (read made)

@@ -152,7 +152,7 @@ part_within len part below = omega arith
 length-chunk : (bytes : List ℕ) (part : ℕ) → length (chunk_of bytes part) ≡ min chunk_size (length bytes - chunk_size * part)
 length-chunk bytes part = length-take chunk_size (drop (chunk_size * part) bytes) ∙ ap (min chunk_size) (length-drop (chunk_size * part) bytes)
 
--- the part that comes next, where the entry stands in a slot at an address
+-- the part that comes next, if the entry stands in a slot at an address
 pub part_is_read : (stores : List Store) (at largest part len : ℕ) (slot : Slot) (n : ℕ) (entry : Entry) → bytes_in stores at largest ≡ slot.payload → Stands slot n entry (Chunk part)
     → part < copies_of entry → len ≡ length (bytes_of entry) → length (bytes_of entry) ≤ largest → bytes_in stores (at + chunk_size * part) (min chunk_size (len - chunk_size * part)) ≡ chunk_of (bytes_of entry) part
 part_is_read stores at largest part len slot n entry payload stands below size fits =

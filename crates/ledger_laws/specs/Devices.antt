@@ -25,7 +25,7 @@ stop_next plan own log now made = told made.step made.answer where
   told (Clean p side) Done = if (p == own.pair) && same_side side own.from then false else now
   told step answer = now
 
--- whether it is stopped after a log, where it was so (`now`) after what stands before that
+-- whether it is stopped after a log, if it was so (`now`) after what stands before that
 abbrev pub stopped_from : Plan → LaneName → List Answered → Bool → List Answered → Bool
 stopped_from plan own before now [] = now
 stopped_from plan own before now (made ∷ log) = let seen = before ++ made ∷ [] in stopped_from plan own seen (stop_next plan own seen now made) log

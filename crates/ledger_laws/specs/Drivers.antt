@@ -93,7 +93,7 @@ is_busy_answer answer = false
 abbrev pub queue_named : ℕ → Side → ℕ → LaneName
 queue_named pair side queue = record { pair = pair; from = side; queue = queue }
 
--- the queue isn't joined, where the link is up if the step needs that; of a join, it isn't ready
+-- the queue isn't joined, if the link is up if the step needs that; of a join, it isn't ready
 abbrev pub lacks_queue : Plan → List Answered → Step → Bool
 lacks_queue plan log (Begin pair side queue frame) = up_at plan pair log && not (driver_after plan log (queue_named pair side queue)).joined
 lacks_queue plan log (QpDown pair side queue) = up_at plan pair log && not (driver_after plan log (queue_named pair side queue)).joined

@@ -36,8 +36,8 @@ abbrev pub change_by_index : Option ℕ → LaneChange
 change_by_index None = Unchanged
 change_by_index (Some n) = IndexLands n
 
--- Nothing, where the step is refused, of another lane or none; else what its answer says. What begins, ends or forgets
--- a session isn't said here.
+-- Nothing, if the step is refused, of another lane or none; else what its answer says. What begins, ends or forgets a
+-- session isn't said here.
 abbrev pub change_of : LaneName → Answered → LaneChange
 change_of lane made = told made.step made.answer where
   told : Step → Answer → LaneChange

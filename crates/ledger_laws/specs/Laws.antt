@@ -64,7 +64,7 @@ EveryFrameComesOnce = (plan : Plan) (memories : Memories) (steps : List Step) (l
 
 -- Again and link down
 
--- the lane on which a step begins an entry, where it is such a step
+-- the lane on which a step begins an entry, if it is such a step
 abbrev pub lane_begun_by : Step → Option LaneName
 lane_begun_by (Begin pair side queue frame) = Some (record { pair = pair; from = side; queue = queue })
 lane_begun_by (QpDown pair side queue) = Some (record { pair = pair; from = side; queue = queue })

@@ -10,7 +10,7 @@ use Rattle.ledger_model.specs.Memory.{memory_of}
 abbrev pub MemoriesKeepPairsApart : Type 0
 MemoriesKeepPairsApart = (plan : Plan) → KeepsPairsApart (memory_of plan)
 
--- so, where memories show what was stored, the answers to the steps on a pair are those of the list without the other
+-- so, if memories show what was stored, the answers to the steps on a pair are those of the list without the other
 -- pairs' steps
 abbrev pub StoredPairsAreSeparate : Type 0
 StoredPairsAreSeparate = (plan : Plan) (steps : List Step) (pair : ℕ) →

@@ -181,8 +181,8 @@ abbrev pub FreedWereBegun : Type 0
 FreedWereBegun = (plan : Plan) (memories : Memories) (steps : List Step) (pair : ℕ) (from : Side) (queue : ℕ) → IsOrdinaryPair plan pair →
     (lane_of (ledger_of plan memories steps pair) from queue).freed ≤ length (lane_of (ledger_of plan memories steps pair) from queue).sent
 
--- a receiver that copies an entry knows how many bytes it has. If an idle one of a joined queue has an entry before it,
--- its frame's bytes so far are with the entry's no more than a frame may have.
+-- A receiver that copies an entry knows its length. While a joined receiver is idle and an entry is waiting, the bytes
+-- gathered plus that entry fit one frame.
 pub record KnowsItsFrame (most queue joined : ℕ) (lane : LanePart) : Type 0 where
   pub len_is : is_copying lane.phase ≡ true → lane.len ≡ length (bytes_of (entry_in lane lane.got))
   pub fits : has_bit joined queue ≡ true → is_idle lane.phase ≡ true → lane.got < length lane.sent → length lane.gathered + length (bytes_of (entry_in lane lane.got)) ≤ most

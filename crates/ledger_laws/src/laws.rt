@@ -95,8 +95,8 @@ pub fn closed_where_closed()
     ensures { ClosedWhereClosed }
 {}
 
-/// `toolong` comes exactly on a frame that is longer than any may be, where the side may send. It may where the link is
-/// up and the queue is joined and open on the side. No premise.
+/// `toolong` comes exactly on a frame that is longer than any may be, if the side may send. It may where the link is up
+/// and the queue is joined and open on the side. No premise.
 pub fn too_long_where_frame_is_long()
     ensures { TooLongWhereFrameIsLong }
 {}
@@ -122,12 +122,12 @@ pub fn peer_down_where_down_landed()
     ensures { PeerDownWhereDownLanded }
 {}
 
-/// `stopped` comes exactly on two steps of a device that the log says is stopped. One is a frame, where no earlier
-/// refusal holds. The other is a wake, where fewer entries are free than the device's `start`. A frame of it that was
-/// begun stops it, where that left fewer entries free than its `stop`. A wake that is made, and a clean of its side
-/// that is made, end that. No earlier refusal of a frame holds where the side may send, the frame isn't too long, and
-/// nothing is left to post. The side may send where the link is up and the queue is joined and open on the side. What
-/// is free is counted over the session as for [`again_where_no_room`]. Premise: the pair is ordinary.
+/// `stopped` comes exactly on two steps of a device that the log says is stopped. One is a frame, if no earlier refusal
+/// holds. The other is a wake, if fewer entries are free than the device's `start`. A frame of it that was begun stops
+/// it, if that left fewer entries free than its `stop`. A wake that is made, and a clean of its side that is made, end
+/// that. No earlier refusal of a frame holds where the side may send, the frame isn't too long, and nothing is left to
+/// post. The side may send where the link is up and the queue is joined and open on the side. What is free is counted
+/// over the session as for [`again_where_no_room`]. Premise: the pair is ordinary.
 pub fn stopped_where_ring_was_low()
     ensures { StoppedWhereRingWasLow }
 {}
@@ -314,9 +314,8 @@ pub fn freed_were_begun()
     ensures { FreedWereBegun }
 {}
 
-/// A receiver that copies an entry knows how many bytes the entry has. If an idle one of a joined queue has an entry
-/// before it, its frame's bytes so far are with the entry's no more than a frame may have. Premise: the pair isn't
-/// declared raw.
+/// A receiver that copies an entry knows its length. While a joined receiver is idle and an entry is waiting, the bytes
+/// gathered plus that entry fit one frame. Premise: the pair isn't declared raw.
 pub fn receiver_knows_its_frame()
     ensures { ReceiverKnowsItsFrame }
 {}

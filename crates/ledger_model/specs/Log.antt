@@ -32,7 +32,7 @@ Memories = List Answered → ℕ → Bytes
 abbrev pub answered : Plan → (ℕ → Bytes) → Ledger → Step → Answered
 answered plan bytes ledger step = record { step = step; answer = (outcome_in plan bytes ledger step).answer }
 
--- the log of steps from a ledger on, and the ledger after them, where `before` is the log so far
+-- the log of steps from a ledger on, and the ledger after them, if `before` is the log so far
 abbrev pub log_from : Plan → Memories → List Answered → Ledger → List Step → List Answered
 log_from plan memories before ledger [] = []
 log_from plan memories before ledger (step ∷ steps) =
@@ -71,7 +71,7 @@ breaks pair made = ended made.step made.answer where
 abbrev pub first_session : Plan → ℕ → ℕ
 first_session plan pair = if (pair_plan plan pair).up then 1 else 0
 
--- what was made while the pair was in a session, where it is now in session `now`
+-- what was made while the pair was in a session, if it is now in session `now`
 abbrev pub made_in : ℕ → ℕ → ℕ → List Answered → List Answered
 made_in pair session now [] = []
 made_in pair session now (made ∷ log) =
@@ -86,7 +86,7 @@ made_since pair kept (made ∷ log) = made_since pair (if trains pair made then 
 abbrev pub in_this_session : ℕ → List Answered → List Answered
 in_this_session pair log = made_since pair [] log
 
--- whether the last link step of the pair that wasn't refused left it up, where it was so before
+-- whether the last link step of the pair that wasn't refused left it up, if it was so before
 abbrev pub up_after : ℕ → Bool → List Answered → Bool
 up_after pair now [] = now
 up_after pair now (made ∷ log) = up_after pair (if trains pair made then true else if breaks pair made then false else now) log
@@ -217,7 +217,7 @@ room_in plan log lane =
 
 -- Scratchpads
 
--- the value that landed last in a scratchpad of a side, where it was `now`
+-- the value that landed last in a scratchpad of a side, if it was `now`
 abbrev pub pad_after : ℕ → Side → ℕ → Option ℕ → List Answered → Option ℕ
 pad_after pair side i now [] = now
 pad_after pair side i now (made ∷ log) = pad_after pair side i (written made.step made.answer) log where
@@ -232,8 +232,7 @@ landed_pad log pair side i = pad_after pair side i None (in_this_session pair lo
 
 -- Looking
 
--- whether the side's last look on the queue was empty and no doorbell of the queue was taken since, where it was so
--- before
+-- whether the side's last look on the queue was empty and no doorbell of the queue was taken since, if it was so before
 abbrev pub saw_empty : ℕ → Side → ℕ → Bool → List Answered → Bool
 saw_empty pair side queue now [] = now
 saw_empty pair side queue now (made ∷ log) = saw_empty pair side queue (seen made.step made.answer) log where
@@ -259,7 +258,7 @@ abbrev pub one_copied : Option Looked → Option Looked
 one_copied None = None
 one_copied (Some found) = Some (record { number = found.number; len = found.len; copies = found.copies + 1 })
 
--- the same after a log, where it was `now` before
+-- the same after a log, if it was `now` before
 abbrev pub looked_after : ℕ → Side → ℕ → Option Looked → List Answered → Option Looked
 looked_after pair side queue now [] = now
 looked_after pair side queue now (made ∷ log) = looked_after pair side queue (seen made.step made.answer) log where

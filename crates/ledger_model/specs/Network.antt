@@ -1,4 +1,4 @@
--- A network: the bridges of a plan and its switches. One fold over the plan's steps says what each results in, where
+-- A network: the bridges of a plan and its switches. One fold over the plan's steps says what each results in, if
 -- frames in switches are kept in one way or another.
 use Rattle.std.specs.Prelude.{ℕ, ◌+◌, List, [], ◌∷◌, ◌++◌, Option, Some, None, count_by}
 use Rattle.step_kinds.specs.Sides.{other_side}

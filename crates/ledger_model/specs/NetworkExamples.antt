@@ -1,4 +1,4 @@
--- Worked examples: hosts a, b and c in a chain, where b joins its two devices by a switch.
+-- Worked examples: hosts a, b and c in a chain, if b joins its two devices by a switch.
 use Rattle.std.specs.Prelude.{◌≡◌, ℕ, List, [], ◌∷◌, ◌++◌, drop, map, replicate, take}
 use Rattle.step_kinds.specs.declared.names.LaneName.{LaneName}
 use Rattle.step_kinds.specs.declared.names.Side.{Side}

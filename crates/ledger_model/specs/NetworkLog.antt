@@ -22,7 +22,7 @@ network_of plan memories steps = network_from bytes_kept plan memories (new_netw
 unfoldable pub answer_after : Plan → Memories → List Step → Step → Answer
 answer_after plan memories steps step = (next_item bytes_kept plan memories (network_of plan memories steps) step).answer
 
--- the same network, where each frame in a switch has its origin
+-- the same network, if each frame in a switch has its origin
 abbrev pub traced_network : Plan → Memories → List Step → Network Carried
 traced_network plan memories steps = network_from origins_kept plan memories (new_network plan) steps
 

@@ -13,7 +13,7 @@ use Rattle.ledger_model.specs.Origins.{Carried, Origin, Passage}
 abbrev pub placed : LaneName → ℕ → Numbered → Carried
 placed lane session frame = record { bytes = frame.bytes; origin = record { lane = lane; session = session; number = frame.number } }
 
--- the frames that a reading finds on a lane, each with its session, where the lane's pair is in session `now`
+-- the frames that a reading finds on a lane, each with its session, if the lane's pair is in session `now`
 abbrev pub placed_from : (Answered → List Numbered) → LaneName → ℕ → List Answered → List Carried
 placed_from read lane now [] = []
 placed_from read lane now (made ∷ log) = map (placed lane now) (read made) ++ placed_from read lane (if trains lane.pair made then now + 1 else now) log

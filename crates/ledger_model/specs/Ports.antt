@@ -19,7 +19,7 @@ pub record Port : Type 0 where
 abbrev pub receiver_of : LaneName → LaneName
 receiver_of lane = record lane { from = other_side lane.from }
 
--- the port of the switch with this number, where it has one on the side and the queue, and else that of a later switch
+-- the port of the switch with this number, if it has one on the side and the queue, and else that of a later switch
 abbrev pub ledger_port_at : ℕ → Option ℕ → Option Port → Option Port
 ledger_port_at k None later = later
 ledger_port_at k (Some place) later = Some (record { switch = k; place = place })

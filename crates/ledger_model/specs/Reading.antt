@@ -1,6 +1,5 @@
 -- What a step learns of the rings of a pair. On an ordinary pair the ledger says it: the entries that were begun and
--- landed. On a raw pair, where anything may be written past the transport, the bytes in memory say it, whoever wrote
--- them.
+-- landed. On a raw pair, if anything may be written past the transport, the bytes in memory say it, whoever wrote them.
 use Rattle.std.specs.Prelude.{ℕ, ◌==◌, Bool, true, nat_lt, List, length, if◌then◌else◌}
 use Rattle.step_kinds.specs.Sides.{other_side}
 use Rattle.step_kinds.specs.declared.names.Side.{Side}
@@ -30,7 +29,7 @@ abbrev pub found_entry : Entry → Found
 found_entry (Carries bytes left) = AnEntry (length bytes) left
 found_entry GoesDown = ALinkDownEntry
 
--- the next entry, where its flags have landed
+-- the next entry, if its flags have landed
 abbrev pub found_in_ledger : LanePart → Found
 found_in_ledger lane = if lane.flagged == lane.got then NoEntry else found_entry (entry_in lane lane.got)
 

@@ -45,7 +45,7 @@ raws_before labels place = count_by is_raw (take place labels) where
   is_raw (Raw window offset len) = true
   is_raw label = false
 
--- the bytes of the raw writes in flight without those of the write at a place, where that is a raw one
+-- the bytes of the raw writes in flight without those of the write at a place, if that is a raw one
 abbrev pub poked_without : SidePart → ℕ → Label → List (List ℕ)
 poked_without own place (Raw window offset len) = remove own.poked (raws_before own.flight place)
 poked_without own place label = own.poked

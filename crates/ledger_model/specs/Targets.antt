@@ -10,7 +10,7 @@ use Rattle.pair_model.specs.RingWrites.{entry_write, index_write, store_of_write
 use Rattle.pair_model.specs.Stores.{Store, store_at}
 use Rattle.ledger_model.specs.Ledger.{PairPart, lane_of, entry_in}
 
--- the entry whose write a label is, of those that a side sends
+-- the sent entry that a labelled write belongs to
 abbrev pub entry_labelled : PairPart → Side → Label → Entry
 entry_labelled pair side (Chunk queue n part) = entry_in (lane_of pair side queue) n
 entry_labelled pair side (Len queue n) = entry_in (lane_of pair side queue) n

@@ -45,8 +45,8 @@ pub struct Link {
 }
 
 impl Link {
-    /// Returns the link of a pair before any step. It is down, with no session yet and enabled by no side, or, where
-    /// `up` holds, up in session 1 and enabled by both sides. Both sides are clean.
+    /// Returns the link of a pair before any step. It is down, with no session yet and enabled by no side, or, if `up`
+    /// holds, up in session 1 and enabled by both sides. Both sides are clean.
     pub fn fresh(up: bool) -> Link
         ensures { result ≡ fresh_link up }
     {
@@ -177,7 +177,7 @@ impl Link {
         Ok(())
     }
 
-    // Refuses, with this refusal, where the link is in another state.
+    // Refuses, with this refusal, if the link is in another state.
     fn is_in(&self, state: LinkState, refusal: LinkRefusal) -> Result<(), LinkRefusal>
         ensures ok { OnOk result (self.now.state ≡ state) }
         ensures err { IfErr result (λ given. (given ≡ refusal) × (self.now.state ≢ state)) }

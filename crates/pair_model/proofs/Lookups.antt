@@ -107,7 +107,7 @@ put-other room (s ∷ rest) st other differs = by (bytes_eq st.address s.address
         ap (λ b. cond b (Some st.port) (found rest other)) differs ∙ sym (ap (λ b. cond b (Some s.port) (found rest other)) not_here)
     by false e h = ap (cond (bytes_eq other s.address) (Some s.port)) h
 
--- once the source of a frame was learned, it is on the frame's port, where it was known or there was room
+-- once the source of a frame was learned, it is on the frame's port, if it was known or there was room
 pub lookup-learned : (fdb : List Station) (a : List ℕ) (port : ℕ) → lookup (learned fdb a port) a ≡ once_learned (nat_lt (length fdb) most_stations) (lookup fdb a) port
 lookup-learned fdb a port =
     let room = nat_lt (length fdb) most_stations in
@@ -132,7 +132,7 @@ found-below ports (s ∷ rest) a h = by (bytes_eq a s.address) (found-below port
     by true k = h.0
     by false k = k
 
--- A lookup gives a port of the switch or none, where all stations are on ports of the switch.
+-- A lookup gives a port of the switch or none, if all stations are on ports of the switch.
 pub lookup-below : (ports : ℕ) (fdb : List Station) (a : List ℕ) → AreBelow ports fdb → IfSome (lookup fdb a) (λ port. port < ports)
 lookup-below ports fdb a h = subst (λ o. IfSome o (λ port. port < ports)) (sym (lookup-found fdb a)) (found-below ports fdb a h)
 
@@ -145,7 +145,7 @@ put-below ports room (s ∷ rest) st h k = by (bytes_eq st.address s.address) (p
     by true e = (k, h.1)
     by false e = (h.0, e)
 
--- All stations are on ports of the switch after a station on one of them was learned, where they were so before.
+-- All stations are on ports of the switch after a station on one of them was learned, if they were so before.
 pub learned-below : (ports : ℕ) (fdb : List Station) (a : List ℕ) (port : ℕ) → AreBelow ports fdb → port < ports → AreBelow ports (learned fdb a port)
 learned-below ports fdb a port h k =
     subst (AreBelow ports) (sym (learned-put fdb a port)) (put-below ports (nat_lt (length fdb) most_stations) fdb (record { address = a; port = port }) h k)
@@ -171,7 +171,7 @@ put-few : (room : Bool) (fdb : List Station) (st : Station) → nat_lt (length f
 put-few true fdb st e h = let below : length fdb < most_stations = (Decides-ltb (length fdb) most_stations).0 e in omega (arith, put-long fdb st, below)
 put-few false fdb st e h = omega (arith, put-full fdb st, h)
 
--- At most 256 stations are known after one was learned, where there were at most 256 before.
+-- At most 256 stations are known after one was learned, if there were at most 256 before.
 pub learned-few : (fdb : List Station) (a : List ℕ) (port : ℕ) → length fdb ≤ most_stations → length (learned fdb a port) ≤ most_stations
 learned-few fdb a port h =
     let room = nat_lt (length fdb) most_stations in
@@ -198,7 +198,7 @@ pub known-source : (room : Bool) (known : Option ℕ) (place port : ℕ) → kno
 known-source true known place port e = refl
 known-source false known place port e = ap (λ o. once_learned false o port) e
 
--- All stations are on ports of the switch after a frame's source on one of them was learned, where they were before.
+-- All stations are on ports of the switch after a frame's source on one of them was learned, if they were before.
 pub learned_source-below : (ports : ℕ) (fdb : List Station) (src : List ℕ) (port : ℕ) → AreBelow ports fdb → port < ports → AreBelow ports (learned_source fdb port src)
 learned_source-below ports fdb src port h k = by (is_multicast src)
   where

@@ -27,7 +27,7 @@ abbrev pub port_at : List Station → Option ℕ → Option ℕ
 port_at fdb (Some place) = Some (slice_index_or fdb place (record { address = []; port = 0 })).port
 port_at fdb None = None
 
--- the port of a station, where it is known
+-- the port of a station, if it is known
 abbrev pub lookup : List Station → List ℕ → Option ℕ
 lookup fdb address = port_at fdb (place_of fdb address)
 

@@ -21,7 +21,7 @@ label_of q entry QueueBell = Bell q
 abbrev pub labels_of : ℕ → ℕ → Entry → List Label
 labels_of q n entry = map (label_of q entry) (writes_of n entry)
 
--- the write of a queue's lane that a label means, where it means one
+-- the write of a queue's lane that a label means, if it means one
 abbrev pub write_of : ℕ → Label → Option Write
 write_of q (Chunk p n part) = if p == q then Some (Data n (PayloadChunk part)) else None
 write_of q (Len p n) = if p == q then Some (Data n Length) else None
@@ -31,7 +31,7 @@ write_of q (Down p n) = if p == q then Some (EntryFlag n) else None
 write_of q (Bell p) = if p == q then Some QueueBell else None
 write_of q label = None
 
--- the number of the entry that an index write on a queue gives back, where a label means one
+-- the number of the entry that an index write on a queue gives back, if a label means one
 abbrev pub label_index_of : ℕ → Label → Option ℕ
 label_index_of q (Index p n) = if p == q then Some n else None
 label_index_of q label = None

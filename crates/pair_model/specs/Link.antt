@@ -38,7 +38,7 @@ abbrev pub fresh_link : Bool → Link
 fresh_link true = record { state = Up; session = 1; enabled = both_of true; clean = both_of true }
 fresh_link false = record { state = Down; session = 0; enabled = both_of false; clean = both_of true }
 
--- the first refusal of two, where there is one
+-- the first refusal of two, if there is one
 abbrev pub refused_where : Bool → LinkRefusal → Option LinkRefusal → Option LinkRefusal
 refused_where true refusal later = Some refusal
 refused_where false refusal later = later

@@ -16,7 +16,7 @@ kind_of false (Ver q n) = relaxed
 kind_of false (Raw window offset len) = relaxed
 kind_of false label = strict
 
--- the traffic class of a write, where each queue of its side has one: that of its queue. Scratchpads and raw bytes have
+-- the traffic class of a write, if each queue of its side has one: that of its queue. Scratchpads and raw bytes have
 -- class 0
 abbrev pub class_of : List ℕ → Label → ℕ
 class_of classes (Chunk q n part) = slice_index classes q

@@ -5,8 +5,8 @@ use Rattle.pair_model.specs.Fdb.{AreBelow, learned, lookup, most_stations, once_
 use Rattle.pair_model.specs.Switch.{flooded, list_of}
 use Rattle.pair_model.specs.declared.Station.{Station}
 
--- a station that was learned is on the port on which it was seen last, where it was known or there was room; else it
--- isn't known
+-- a station that was learned is on the port on which it was seen last, if it was known or there was room; else it isn't
+-- known
 abbrev pub LearnedIsFound : Type 0
 LearnedIsFound = (fdb : List Station) (a : List ℕ) (port : ℕ) → lookup (learned fdb a port) a ≡ once_learned (nat_lt (length fdb) most_stations) (lookup fdb a) port
 

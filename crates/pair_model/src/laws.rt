@@ -9,7 +9,7 @@ pub fn each_queue_has_a_ring()
     ensures { EachQueueHasARing }
 {}
 
-/// A station that was learned is on the port on which it was seen last, where it was known before or fewer than 256
+/// A station that was learned is on the port on which it was seen last, if it was known before or fewer than 256
 /// stations were. Else it isn't known after it either.
 pub fn learned_is_found()
     ensures { LearnedIsFound }

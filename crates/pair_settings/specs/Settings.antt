@@ -53,7 +53,7 @@ key_range Windows = record { least = 1; most = most_windows }
 key_range Queues = record { least = 1; most = most_queues }
 key_range Version = record { least = 3; most = 5 }
 
--- the range of an option's number, where it has one
+-- the range of an option's number, if it has one
 abbrev pub range_of : Setting → Option Range
 range_of (Mtu number) = Some mtu_range
 range_of (OfSide key side number) = Some (key_range key)
@@ -62,7 +62,7 @@ range_of setting = None
 abbrev pub is_within : Range → ℕ → Bool
 is_within range number = nat_le range.least number && nat_le number range.most
 
--- whether a number of bytes is a whole number of steps, where the key's is one of bytes
+-- whether a number of bytes is a whole number of steps, if the key's is one of bytes
 abbrev pub is_stepped : SideKey → ℕ → Bool
 is_stepped Size bytes = bytes % size_step == 0
 is_stepped Cap bytes = bytes % size_step == 0
@@ -76,7 +76,7 @@ in_range setting = true
 
 -- The pair that they declare
 
--- the number of an option of these sides, where it stands
+-- the number of an option of these sides, if it is given
 abbrev pub setting_number_at : SideKey → Option Side → List Setting → Option ℕ
 setting_number_at key side [] = None
 setting_number_at key side (OfSide other scope number ∷ settings) =

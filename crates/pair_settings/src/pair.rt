@@ -23,7 +23,7 @@ pub fn has_setting(setting: Setting, settings: &[Setting]) -> bool
     settings.iter().any(|other| setting.is_same(other))
 }
 
-/// Returns the number of an option of these sides, where it stands.
+/// Returns the number of an option of these sides, if it is given.
 fn number_at(settings: &[Setting], key: SideKey, side: Option<Side>) -> Option<u32>
     ensures { result ≡ rules.setting_number_at key side settings.now }
 {
@@ -88,7 +88,7 @@ fn side_with(settings: &[Setting], side: Side) -> SidePlan
 /// its own, that of both sides counts.
 ///
 /// If nothing is said, a side has version 4, one queue and one window of 65,536 bytes, its cap is the peer's size, and
-/// the mtu is 65,536. The pair starts up, and is strict or raw, where an option says so. Each class is 0.
+/// the mtu is 65,536. The pair starts up, and is strict or raw, if an option says so. Each class is 0.
 pub fn pair_with(name: Name, settings: &[Setting]) -> PairPlan
     ensures { result ≡ rules.pair_with name settings.now }
 {

@@ -88,7 +88,7 @@ impl SideKey {
         }
     }
 
-    /// Returns whether a number of bytes is a whole number of steps, where the key's is one of bytes.
+    /// Returns whether a number of bytes is a whole number of steps, if the key's is one of bytes.
     fn is_stepped(self, number: u32) -> bool
         ensures { result ≡ rules.is_stepped self number }
     {
@@ -128,7 +128,7 @@ impl Setting {
         }
     }
 
-    /// Returns the range of the option's number, where it has one.
+    /// Returns the range of the option's number, if it has one.
     pub fn range(&self) -> Option<Range>
         ensures { result ≡ rules.range_of self.now }
     {

@@ -20,7 +20,7 @@ may_land-split before after write =
     ap (λ found. lands_behind found (take (length before) (before ++ write ∷ after))) (slice_get-at before write after)
     ∙ ap (list_all (passes write)) (take_at before (write ∷ after) (length before) refl)
 
--- the same, where each write has its order by `order`
+-- the same, if each write has its order by `order`
 pub may_land-map_split : {W : Type 0} (order : W → Order) (before after : List W) (write : W) → may_land (map order (before ++ write ∷ after)) (length before) ≡ list_all (λ earlier. passes (order write) (order earlier)) before
 may_land-map_split order before after write =
     may_land-map order (before ++ write ∷ after) (length before) write (slice_get-at before write after)
@@ -125,7 +125,7 @@ pub remove-split : {X : Type 0} (before : List X) (item : X) (after : List X) �
 remove-split [] item after = refl
 remove-split (x ∷ before) item after = ap (λ rest. x ∷ rest) (remove-split before item after)
 
--- the part of a list that is kept, where the item is one of it
+-- the part of a list that is kept, if the item is one of it
 pub filter-split : {X : Type 0} (kept : X → Bool) (before : List X) (item : X) (after : List X) → IsTrue (kept item) → filter kept (before ++ item ∷ after) ≡ filter kept before ++ item ∷ filter kept after
 filter-split kept before item after keeps = rw (filter-append kept before (item ∷ after), keeps) refl
 

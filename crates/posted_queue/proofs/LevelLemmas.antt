@@ -117,7 +117,7 @@ behind-later (x ∷ xs) zero (suc m) low none = behind-later xs zero m (omega ar
 behind-later (x ∷ xs) (suc n) zero low none = absurd (omega arith)
 behind-later (x ∷ xs) (suc n) (suc m) low none = behind-later xs n m (omega arith) none
 
--- the parts from one on have no less room, where a part has no less
+-- the parts from one on have no less room, if a part has no less
 room_in-drop_set : {W : Type 0} (row : List (PartState W)) (from n : ℕ) (new : PartState W) → n < length row → (part_at row n).spare ≤ new.spare → row_room_in (drop from row) ≤ row_room_in (drop from (set row n new))
 room_in-drop_set [] from n new within more = absurd (omega arith)
 room_in-drop_set (x ∷ xs) zero zero new within more = omega arith
@@ -125,7 +125,7 @@ room_in-drop_set (x ∷ xs) zero (suc n) new within more = let rest = room_in-dr
 room_in-drop_set (x ∷ xs) (suc from) zero new within more = omega arith
 room_in-drop_set (x ∷ xs) (suc from) (suc n) new within more = room_in-drop_set xs from n new (omega arith) more
 
--- no more writes stand from a part on, where one part has no more
+-- no more writes stand from a part on, if one part has no more
 length-writes_in-drop_set : {W : Type 0} (row : List (PartState W)) (from n : ℕ) (new : PartState W) → n < length row → length new.writes ≤ length (part_at row n).writes → length (row_writes_in (drop from (set row n new))) ≤ length (row_writes_in (drop from row))
 length-writes_in-drop_set [] from n new within fewer = absurd (omega arith)
 length-writes_in-drop_set (x ∷ xs) zero zero new within fewer = simp length-append (omega arith)

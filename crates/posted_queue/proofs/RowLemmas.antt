@@ -72,7 +72,7 @@ pub room_in-append : {W : Type 0} (xs ys : List (PartState W)) → row_room_in (
 room_in-append [] ys = sym (zero-add (row_room_in ys))
 room_in-append (x ∷ xs) ys = let e = room_in-append xs ys in omega arith
 
--- a write after all others of a part, where the parts after it have none
+-- a write after all others of a part, if the parts after it have none
 pub writes_in-push : {W : Type 0} (row : List (PartState W)) (n : ℕ) (old new : PartState W) (write : W) → n < length row → old ≡ get_or row n old → new.writes ≡ old.writes ++ write ∷ [] → row_writes_in (drop (suc n) row) ≡ [] → row_writes_in (set row n new) ≡ row_writes_in row ++ write ∷ []
 writes_in-push row n old new write within read pushed behind =
     let same : part_at row n ≡ old = get_or_default row n no_part old within ∙ sym read in

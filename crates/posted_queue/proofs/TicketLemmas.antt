@@ -1,4 +1,4 @@
--- The writes that tickets represent, where one is put, taken out or landed.
+-- The writes that tickets represent, if one is put, taken out or landed.
 use Rattle.std.proofs.Common.{◌≡◌, ◌≢◌, ℕ, zero, suc, ◌-◌, List, [], ◌∷◌, ◌++◌, length, map, Option, Some, None, slice_get, remove, refl, sym, ap, subst, ◌∙◌}
 use Rattle.std.specs.List.{cons_option}
 use Rattle.std.proofs.lemmas.List.Elements.{filter_map-append}

@@ -11,7 +11,7 @@ answer_for None lands = Nothing
 answer_for (Some write) true = Landed write
 answer_for (Some write) false = Blocked
 
--- the answer to a landing at a place, where each write has its order by `order`
+-- the answer to a landing at a place, if each write has its order by `order`
 abbrev pub land_answer : {W : Type 0} → (W → Order) → Flight W → ℕ → LandAnswer W
 land_answer order flight place = answer_for (slice_get flight.writes place) (may_land (map order flight.writes) place)
 

@@ -21,7 +21,7 @@ pub struct Level<W: Ordered, P: Part<W>> {
 impl<W: Ordered, P: Part<W>> Level<W, P> {
     ghost use Rattle.std.specs.Prelude.{◌≡◌, ◌≤◌};
 
-    // Moves a part that has no write any more after all others, where it stands before the last one in use.
+    // Moves a part that has no write any more after all others, if it is given before the last one in use.
     #[inline]
     fn move_emptied(&mut self, part: usize)
         ensures writes { self.new.writes ≡ self.old.writes }

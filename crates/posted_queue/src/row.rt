@@ -63,7 +63,7 @@ pub fn first_with_write<W: Ordered, P: Part<W>>(row: &[Counted<W, P>]) -> usize
     index
 }
 
-/// Returns the first part from this one on that has room, where some of these has.
+/// Returns the first part from this one on that has room, if some of these has.
 #[inline]
 pub fn first_with_room<W: Ordered, P: Part<W>>(row: &[Counted<W, P>], from: usize) -> usize
     requires { 0 < row_room_in (drop from row.now) }
@@ -90,7 +90,7 @@ pub fn room_from<W: Ordered, P: Part<W>>(row: &[Counted<W, P>], from: usize) -> 
     room
 }
 
-/// Puts a write after those of a part that has room, where the parts after that have no write.
+/// Puts a write after those of a part that has room, if the parts after that have no write.
 #[inline]
 pub fn push_at<W: Ordered, P: Part<W>>(row: &mut Vec<Counted<W, P>>, number: usize, write: W)
     requires there { number < length row.old.items }

@@ -54,8 +54,8 @@ pub enum LookAnswer {
         seen: u32,
         own: u32,
     },
-    /// The entry has more bytes than an entry may have, or makes its frame longer than a frame may be: `len` bytes,
-    /// where `max` is the most.
+    /// The entry has more bytes than an entry may have, or makes its frame longer than a frame may be: `len` bytes, if
+    /// `max` is the most.
     Long {
         len: u32,
         max: u32,

@@ -54,7 +54,7 @@ impl QueuePair {
     ///
     /// # Errors
     ///
-    /// [`AllocError`] as from [`Port::begin`], where the frame is not refused.
+    /// [`AllocError`] as from [`Port::begin`], if the frame is not refused.
     pub fn begin(&mut self, pair: &mut Pair, frame: Frame) -> Result<BeginAnswer, AllocError>
         requires some { 0 < length frame }
         requires plan { pair.old.plan ≡ self.old.port.plan }
@@ -89,7 +89,7 @@ impl QueuePair {
     ///
     /// # Errors
     ///
-    /// [`AllocError`] as from [`Port::down`], where the entry is not refused.
+    /// [`AllocError`] as from [`Port::down`], if the entry is not refused.
     pub fn qpdown(&mut self, pair: &mut Pair) -> Result<BeginAnswer, AllocError>
         requires plan { pair.old.plan ≡ self.old.port.plan }
         requires fits { is_joined self.old pair.old ≡ true → FitsRings self.old.port.plan }
@@ -123,7 +123,7 @@ impl QueuePair {
     ///
     /// # Errors
     ///
-    /// [`AllocError`] as from [`Port::look`], where an entry was found.
+    /// [`AllocError`] as from [`Port::look`], if an entry was found.
     pub fn look(&mut self, pair: &mut Pair) -> Result<LookAnswer, AllocError>
         requires plan { pair.old.plan ≡ self.old.port.plan }
         requires fits { is_joined self.old pair.old ≡ true → FitsRings self.old.port.plan }

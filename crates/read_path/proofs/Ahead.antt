@@ -38,7 +38,7 @@ ahead_after P Q x gone before c (y ∷ ys) has = (
       (ahead_after P Q x gone before (c ++ y ∷ []) ys (subst (λ b. AllAhead P b ys) (append_assoc before (x ∷ c) (y ∷ [])) has.1)),
 )
 
--- without one item the others have their facts, where the fact of each stays without that item before it
+-- without one item the others have their facts, if the fact of each stays without that item before it
 pub ahead_without : (P Q : List Sent → Sent → Type 0) (x : Sent) → ((b : List Sent) (z : Sent) → P b z → Q b z) → ((b c : List Sent) (z : Sent) → P (b ++ x ∷ c) z → Q (b ++ c) z)
     → (before xs ys : List Sent) → AllAhead P before (xs ++ x ∷ ys) → AllAhead Q before (xs ++ ys)
 ahead_without P Q x weaker gone before [] ys has =

@@ -231,7 +231,7 @@ landed_holds log Closing session sides B place p (Request number at len) holds t
 
 -- The step
 
--- what a landing has to keep, where this stands at the place and may land or not
+-- what a landing has to keep, if this stands at the place and may land or not
 abbrev LandingHolds : List PathEntry → PathState → Side → ℕ → Option Sent → Option PathFlying → Bool → Type 0
 LandingHolds log path side place sent flying lands =
     Holds (log ++ record { step = Land side place; answer = Landed (path_answer_for flying lands) } ∷ [])

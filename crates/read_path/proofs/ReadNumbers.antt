@@ -279,7 +279,7 @@ landed_numbers log Closing session sides A place (Request number at len) holds t
 landed_numbers log Closing session sides B place (Request number at len) holds there =
     record { sides = by_side _ (untouched log _ A sides.a refl (λ n. refl) (holds.sides A)) (side_lands log B sides.b place number at len there (holds.sides B)) }
 
--- what a landing has to keep, where this stands at the place and may land or not
+-- what a landing has to keep, if this stands at the place and may land or not
 abbrev LandingNumbers : List PathEntry → PathState → Side → ℕ → Option PathFlying → Bool → Type 0
 LandingNumbers log path side place flying lands =
     NumbersHold (log ++ record { step = Land side place; answer = Landed (path_answer_for flying lands) } ∷ []) (if lands then path_taken path side place flying else path)

@@ -101,7 +101,7 @@ drop_holds log Closing session sides holds =
           (side_drops (log ++ e ∷ []) (told.dropped + 1) told.landed B told.sides.b sides.b (holds.sides B).memory);
     }
 
--- what a relink has to keep, where the sessions are spent or aren't
+-- what a relink has to keep, if the sessions are spent or aren't
 abbrev RelinkHolds : List PathEntry → PathState → Option LinkRefusal → Type 0
 RelinkHolds log path refusal =
     Holds (log ++ record { step = Relink; answer = Linked refusal } ∷ []) (told_after (told_of log) (record { step = Relink; answer = Linked refusal }))

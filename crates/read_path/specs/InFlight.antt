@@ -28,7 +28,7 @@ path_kind_of (Last number bytes) = completion
 abbrev pub may_pass_all : PathFlying → List PathFlying → Bool
 may_pass_all flying before = list_all (λ earlier. may_overtake (path_kind_of flying) (path_kind_of earlier)) before
 
--- whether what stands here may land, where anything does
+-- whether what stands here may land, if anything does
 abbrev pub lands_after : Option PathFlying → List PathFlying → Bool
 lands_after None before = false
 lands_after (Some flying) before = may_pass_all flying before

@@ -84,6 +84,6 @@ pub enum PathAnswer {
     Landed { answer: PathLand },
     /// Of a show: the bytes.
     Shown { frame: Frame },
-    /// Of a step of the link: why it was refused, where it was.
+    /// Of a step of the link: why it was refused, if it was.
     Linked { refusal: Option<LinkRefusal> },
 }

@@ -11,7 +11,7 @@ use Rattle.reads_command.specs.Report.{made_line, made_lines}
 use Rattle.read_path.specs.declared.steps.PathStep.{PathStep}
 use Rattle.reads_command.specs.Replies.{ReplyState, reads_with_line}
 
--- the lines of a text's answers, where the reply so far has some of them and these lines are left
+-- the lines of a text's answers, if the reply so far has some of them and these lines are left
 abbrev pub lines_left : ReplyState → ℕ → List (List ℕ) → Result (List ℕ) ℕ
 lines_left reply n lines = result_map (λ steps. reply.text ++ made_lines reply.path steps) (reads_lines n reply.steps lines)
 

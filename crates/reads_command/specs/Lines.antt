@@ -97,7 +97,7 @@ reads_header_line line = do
   _ ← fault_if (not (is_reads_header (words_of line))) BadHeader
   Ok None
 
--- what line n gives, where this many steps stand before it: the header and a line that says nothing give none
+-- what line n gives, if this many steps stand before it: the header and a line that says nothing give none
 abbrev pub reads_line_gives : ℕ → ℕ → List ℕ → Result (Option PathStep) Cause
 reads_line_gives n steps line =
     if n == 1 then reads_header_line line
@@ -118,13 +118,13 @@ abbrev pub before_more : ℕ → PathStep → Result (List LineStep) ℕ → Res
 before_more n step (Ok more) = Ok (record { line = n; step = step } ∷ more)
 before_more n step (Err bad) = Err bad
 
--- what line n gives and the lines after it give, where it gives no step and where it gives one
+-- what line n gives and the lines after it give, if it gives no step and where it gives one
 abbrev pub go_on : ℕ → Result (Option PathStep) Cause → Result (List LineStep) ℕ → Result (List LineStep) ℕ → Result (List LineStep) ℕ
 go_on n (Err cause) without with_one = Err n
 go_on n (Ok None) without with_one = without
 go_on n (Ok (Some step)) without with_one = before_more n step with_one
 
--- the steps of the lines from number n on, where this many steps stand before them, or the number of the first bad line
+-- the steps of the lines from number n on, if this many steps stand before them, or the number of the first bad line
 abbrev pub reads_lines : ℕ → ℕ → List (List ℕ) → Result (List LineStep) ℕ
 reads_lines n steps [] = Ok []
 reads_lines n steps (line ∷ lines) = go_on n (reads_line_gives n steps line) (reads_lines (n + 1) steps lines) (reads_lines (n + 1) (steps + 1) lines)

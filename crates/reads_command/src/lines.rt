@@ -200,8 +200,8 @@ fn header_line<'a>(words: &mut Vec<&'a [u8]>, line: &'a [u8]) -> Result<Option<P
     Ok(None)
 }
 
-/// Returns the step that line `number` gives, where this many steps stand before it: the first line, a comment and a
-/// line without words give none. Its words are read into `words`.
+/// Returns the step that line `number` gives, if this many steps stand before it: the first line, a comment and a line
+/// without words give none. Its words are read into `words`.
 ///
 /// Line 1, and each other line that has words and is no comment, may have a fault. It is the first of these:
 ///

@@ -105,7 +105,7 @@ pub fn push_answer_line(text: &mut Vec<u8>, made: &LineAnswer) -> Result<(), All
     push_line(text, &mut LineText::new(), made)
 }
 
-// The same, where the line is put together in a place that has no text, and has none after it.
+// The same, if the line is put together in a place that has no text, and has none after it.
 fn push_line(text: &mut Vec<u8>, line: &mut LineText, made: &LineAnswer) -> Result<(), AllocError>
     requires { line.old ≡ [] }
     ensures added { OnOk result (text.new.items ≡ text.old.items ++ answer_line made.now) }

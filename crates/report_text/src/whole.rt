@@ -65,7 +65,7 @@ fn push_lanes(text: &mut Vec<u8>, pairs: &[PairPlan], lanes: &[LaneCount]) -> Re
     Ok(())
 }
 
-// Adds the line of what a lane accepted and delivered, where either isn't 0.
+// Adds the line of what a lane accepted and delivered, if either isn't 0.
 fn push_count(text: &mut Vec<u8>, pairs: &[PairPlan], count: &LaneCount) -> Result<(), AllocError>
     requires { count.now.name.pair < length pairs.now }
     ensures { OnOk result (text.new.items ≡ text.old.items ++ count_lines pairs.now count.now) }

@@ -102,7 +102,7 @@ impl Model for Ends {
     ghost view = { λ ends. record { sender = ends.sender; receiver = ends.receiver; forward = ends.forward; back = ends.back } };
 }
 
-// The sender's next frame, where it has one, is given to the direction. Returns an error if memory runs out.
+// The sender's next frame, if it has one, is given to the direction. Returns an error if memory runs out.
 fn give(sender: &mut StreamSender, forward: &mut Wire) -> Result<(), AllocError>
     ensures sender { OnOk result (sender.new ≡ after_next_frame sender.old) }
     ensures forward { OnOk result (forward.new ≡ with_any forward.old (next_frame sender.old)) }

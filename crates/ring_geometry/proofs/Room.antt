@@ -20,7 +20,7 @@ free_ahead : (n begun room : ℕ) → room < n → free_entries n (begun % n) ((
 free_ahead n begun room p =
     rw (← mod-add-mod begun n room) (free_step n (begun % n) room (mod_below begun n (omega arith)) p)
 
--- Head and index word show just as many free entries as the counts say, where one of at least two stays free.
+-- Head and index word show just as many free entries as the counts say, if one of at least two stays free.
 pub free_is_room : (entries begun freed : ℕ) → 2 ≤ entries → freed ≤ begun → begun ≤ freed + entries - 1
     → free_entries entries (head_of entries begun) (tail_of entries freed) ≡ room_of entries begun freed
 free_is_room entries begun freed p q r =

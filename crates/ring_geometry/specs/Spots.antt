@@ -75,7 +75,7 @@ AreOther (Index queue) (Payload queue' slot') = Unit {0}
 AreOther (Index queue) (Header queue' slot' from' len') = Unit {0}
 AreOther (Index queue) (Index queue') = queue ≢ queue'
 
--- two such spots of one memory share no byte, where the peer's windows fit into those that the memory gives
+-- two such spots of one memory share no byte, if the peer's windows fit into those that the memory gives
 abbrev pub SpotsStandApart : Type 0
 SpotsStandApart = (rings : Rings) → rings.size ≤ rings.cap → (one other : Spot) → IsSpot rings one → IsSpot rings other → AreOther one other
     → StandApart (spot_at rings one) (spot_bytes rings one) (spot_at rings other) (spot_bytes rings other)

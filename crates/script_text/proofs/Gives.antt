@@ -1,4 +1,4 @@
--- What holds of the value that a chain of tests gives, where it gives one.
+-- What holds of the value that a chain of tests gives, if it gives one.
 use Rattle.std.proofs.Common.{◌≡◌, ℕ, Bool, true, false, cond, Option, Some, None, Result, Ok, Err, refl, subst}
 use Rattle.script_words.specs.Before.{Given}
 use Rattle.script_words.specs.StepLines.{or_unknown}
@@ -58,7 +58,7 @@ pub gives_known : {X : Type 0} (P : Given → Type 0) (option : Option X) (line 
 gives_known P (Some x) line h = h x refl
 gives_known P None line h = record { holds = λ y e. cc e }
 
--- What holds of the value that a word means, where it means one.
+-- What holds of the value that a word means, if it means one.
 pub record Means {X : Type 0} (P : X → Type 0) (option : Option X) : Type 0 where
   pub holds : (x : X) → option ≡ Some x → P x
 

@@ -42,7 +42,7 @@ break_suits before pair held fits =
     let here : count_by (is_break_of pair) (LinkLoss pair ∷ []) ≡ 1 = one_break pair pair ∙ rw same refl in
     (omega arith, omega arith)
 
--- A value in compact form suits the lines before it, which declare a whole plan, where its full form fits there.
+-- A value in compact form suits the lines before it, which declare a whole plan, if its full form fits there.
 pub suits : (before : Before) (given : Given) → Held before → Fits before (given_of given) → Suits before given
 suits before Nothing held fits = tt
 suits before (Host name) held fits = (fits.is_new, fits.few)

@@ -86,7 +86,7 @@ one_declared before devs word all =
     gives_then _ _ _ (gives_passed (is_port before dev || is_among devs dev) (fault_at (port_place devs) Repeated)) (λ _ _.
     gives_ok _ (devs ++ dev ∷ []) (All-push (λ d. d < length before.plan.devs) devs dev all lt)))
 
--- The devices that words name as ports are all declared, where those named before them are.
+-- The devices that words name as ports are all declared, if those named before them are.
 pub all_declared : (before : Before) (devs : List ℕ) (words : List (List ℕ)) → All (λ dev. dev < length before.plan.devs) devs
     → Gives (λ more. All (λ dev. dev < length before.plan.devs) more) (ports_from before devs words)
 all_declared before devs [] all = gives_ok _ devs all

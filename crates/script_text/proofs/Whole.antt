@@ -278,7 +278,7 @@ traffic_kept n before traffic held fits =
       declarations_first = λ e. absurd (fits.part e);
     }
 
--- Lines that declare a whole plan still declare one with what a further line gives, where it fits beside them.
+-- Lines that declare a whole plan still declare one with what a further line gives, if it fits beside them.
 pub kept : (n : ℕ) (before : Before) (given : Given) → Held before → Fits before given → Held (with_given n before given)
 kept n before Nothing held fits = held
 kept n before (Host name) held fits = record { whole = held.whole; declarations_first = held.declarations_first }
@@ -312,7 +312,7 @@ nothing_held = record {
 all_devices : (before : Before) → Held before → All (IsDevice before.plan) before.plan.devs
 all_devices before held = All-from_get_or (IsDevice before.plan) before.plan.devs no_dev held.whole.declared.devices
 
--- What the words of a line give fits beside the lines before it, where these declare a whole plan.
+-- What the words of a line give fits beside the lines before it, if these declare a whole plan.
 pub words_fit : (before : Before) → Held before → (part : Part) → before.part ≡ part → (words : List (List ℕ)) → Filled words → Gives (Fits before) (words_line before part words)
 words_fit before held Declarations is [] h = gives_ok (Fits before) Nothing tt
 words_fit before held Steps is [] h = gives_ok (Fits before) Nothing tt

@@ -14,7 +14,7 @@ Parses (Ok x) due = due ≡ Ok x
 Parses (Err (Fault fault)) due = due ≡ Err fault
 Parses (Err OutOfMemory) due = Unit {0}
 
--- the lines so far with line n, where it gives something
+-- the lines so far with line n, if it gives something
 abbrev pub after_line : ℕ → Before → Result Given LineFault → Result Before ScriptFault
 after_line n before (Ok given) = Ok (with_given n before given)
 after_line n before (Err fault) = Err (record { line = n; fault = fault })

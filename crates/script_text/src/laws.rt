@@ -20,8 +20,8 @@ pub fn cut_plan(bytes: &[u8], end: usize)
     ensures { IsOk (script_of (take end bytes.now)) }
 {}
 
-/// A script's fault hangs on nothing after its line, where that line ends with the line feed before place `end`. Any
-/// other bytes that begin with the same `end` bytes have the same fault, in the same line.
+/// A script's fault hangs on nothing after its line, if that line ends with the line feed before place `end`. Any other
+/// bytes that begin with the same `end` bytes have the same fault, in the same line.
 pub fn same_fault(bytes: &[u8], other: &[u8], end: usize)
     requires fault { FaultEndsAt bytes.now end }
     requires same { take end other.now ≡ take end bytes.now }

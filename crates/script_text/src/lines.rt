@@ -146,7 +146,7 @@ fn read_long<'a>(words: &mut Vec<&'a [u8]>, line: &'a [u8]) -> Result<(), AllocE
     Ok(())
 }
 
-/// Adds what stands between two spaces, where it has a byte.
+/// Adds what stands between two spaces, if it has a byte.
 fn push_word<'a>(words: &mut Vec<&'a [u8]>, word: &'a [u8]) -> Result<(), AllocError>
     ensures { OnOk result (map (λ word. word.now) words.new.items ≡ map (λ word. word.now) words.old.items ++ filter spelled.is_filled (word.now ∷ [])) }
 {

@@ -93,7 +93,7 @@ fn read_line<'a>(
     words_line(alloc, before, number, words)
 }
 
-/// The same, where the fault has its line.
+/// The same, if the fault has its line.
 #[inline(always)]
 fn add_line<'a>(
     alloc: Global,

@@ -29,7 +29,7 @@ use step_kinds::limits::{MOST_FRAME_BYTES, MOST_POKE_BYTES, MOST_STEPS};
 use step_kinds::{Frame, PairPlan, Side, Step};
 use step_list::{Macro, Repeated};
 
-/// Adds the steps of a line, where they don't pass the script's limit.
+/// Adds the steps of a line, if they don't pass the script's limit.
 #[inline(always)]
 fn add_steps(before: &mut Reader, line: u32, steps: Macro) -> AddResult
     ensures { Adds line before.old before.new result (rules.steps_within before.old (line_steps_of steps)) }
@@ -41,7 +41,7 @@ fn add_steps(before: &mut Reader, line: u32, steps: Macro) -> AddResult
     Ok(())
 }
 
-/// Adds the step of a line, where it doesn't pass the script's limit.
+/// Adds the step of a line, if it doesn't pass the script's limit.
 fn add_step(before: &mut Reader, line: u32, step: Step) -> AddResult
     ensures { Adds line before.old before.new result (rules.steps_within before.old (step ∷ [])) }
 {

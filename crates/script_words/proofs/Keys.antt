@@ -3,7 +3,7 @@ use Rattle.std.proofs.Common.{◌≡◌, ℕ, Bool, true, false, ◌&&◌, Some,
 use Rattle.std.specs.Cmp.Lexicographic.{pointwise}
 use Rattle.script_words.specs.Words.{behind}
 
--- What a word has after a key is the word without its front, where that front is the key, and else nothing.
+-- What a word has after a key is the word without its front, if that front is the key, and else nothing.
 pub behind-cuts : (key word : List ℕ) → behind key word ≡ cond (pointwise nat_eq (take (length key) word) key) (Some (drop (length key) word)) None
 behind-cuts [] word = refl
 behind-cuts (k ∷ key) [] = refl

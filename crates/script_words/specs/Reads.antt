@@ -1,4 +1,4 @@
--- What the code owes of a definition's value: that value, where memory was there.
+-- What the code owes of a definition's value: that value, if memory was there.
 use Rattle.std.specs.Prelude.{◌≡◌, Result, Ok, Err}
 use Rattle.script_words.specs.declared.fault.Cause.{Cause}
 use Rattle.script_words.specs.declared.fault.LineFault.{LineFault}

@@ -21,7 +21,7 @@ use Rattle.script_words.specs.declared.fault.LineFault.{LineFault}
 
 -- A kind of line, by its first word; each function answers none for a word of another kind.
 
--- the steps of a line, where they don't pass the script's limit
+-- the steps of a line, if they don't pass the script's limit
 abbrev pub steps_within : Before → List Step → Result Given LineFault
 steps_within before steps = do
   _ ← fault_if (nat_lt most_steps (length before.plan.steps + length steps)) (whole TooMany)
@@ -164,7 +164,7 @@ wake_line before dev_text = do
   dev ← at 2 (dev_word before dev_text)
   steps_within before (Wake (dev_plan before.plan.devs dev).pair (dev_plan before.plan.devs dev).side (dev_plan before.plan.devs dev).queue dev ∷ [])
 
--- DEV ADDRESS KIND HEX, where `is_macro` says whether all writes are posted too
+-- DEV ADDRESS KIND HEX, if `is_macro` says whether all writes are posted too
 abbrev pub ethernet_steps : Plan → Bool → ℕ → List ℕ → ℕ → List ℕ → List Step
 ethernet_steps plan is_macro dev dst kind payload =
     let device = dev_plan plan.devs dev in

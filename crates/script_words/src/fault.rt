@@ -133,7 +133,7 @@ pub struct LineFault {
     pub word: u32,
     /// Why the line is refused.
     pub cause: Cause,
-    /// The range of the number that the word should spell, where it has one by itself and the number isn't of it. Of an
+    /// The range of the number that the word should spell, if it has one by itself and the number isn't of it. Of an
     /// option it stands with [`Cause::BadGeometry`] alone.
     pub range: Option<Range>,
 }

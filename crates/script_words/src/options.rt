@@ -40,9 +40,9 @@ fn new_setting(settings: &[Setting], word: &[u8]) -> Result<Setting, LineFault>
 /// [`LineError::OutOfMemory`] if memory runs out. Else [`LineError::Fault`] if a word has a fault: that of the first
 /// such word, at its number in the line. Of a word it is the first of these:
 ///
-/// 1. the cause of [`read_setting`], where it answers one,
-/// 2. [`Cause::Repeated`], where a word before it spells the same option, with whatever number,
-/// 3. [`Cause::BadGeometry`] with the option's range, where the number isn't one that the option may have.
+/// 1. the cause of [`read_setting`], if it answers one,
+/// 2. [`Cause::Repeated`], if a word before it spells the same option, with whatever number,
+/// 3. [`Cause::BadGeometry`] with the option's range, if the number isn't one that the option may have.
 #[tactic(auto, using(crate::proofs::FewSettings::apart_none, crate::proofs::FewSettings::few_settings), unfolding(crate::specs::Tests::and_then))]
 pub fn read_settings(alloc: Global, words: &[&[u8]]) -> Result<Items<Setting>, LineError>
     ensures { ReadsLine result (rules.settings_from [] (map (λ word. word.now) words.now)) }

@@ -63,7 +63,7 @@ pub enum FrameWord {
     Send,
 }
 
-/// Returns the first word of a line that has a pair, where it is one.
+/// Returns the first word of a line that has a pair, if it is one.
 pub fn pair_word_of(word: &[u8]) -> Option<PairWord>
     ensures { option_map pair_step_of result ≡ pair_step word.now }
 {
@@ -74,7 +74,7 @@ pub fn pair_word_of(word: &[u8]) -> Option<PairWord>
     }
 }
 
-/// Returns the first word of a line that has a pair and a side, where it is one.
+/// Returns the first word of a line that has a pair and a side, if it is one.
 pub fn side_word_of(word: &[u8]) -> Option<SideWord>
     ensures { option_map side_steps_of result ≡ side_steps word.now }
 {
@@ -88,7 +88,7 @@ pub fn side_word_of(word: &[u8]) -> Option<SideWord>
     }
 }
 
-/// Returns the first word of a line that has a pair, a side and a queue, where it is one.
+/// Returns the first word of a line that has a pair, a side and a queue, if it is one.
 pub fn queue_word_of(word: &[u8]) -> Option<QueueWord>
     ensures { option_map queue_steps_of result ≡ queue_steps word.now }
 {
@@ -105,7 +105,7 @@ pub fn queue_word_of(word: &[u8]) -> Option<QueueWord>
     }
 }
 
-/// Returns the first word of a line that has a pair, a side and a number, where it is one.
+/// Returns the first word of a line that has a pair, a side and a number, if it is one.
 pub fn number_word_of(word: &[u8]) -> Option<NumberWord>
     ensures { option_map numbered_of result ≡ numbered_steps word.now }
 {
@@ -119,7 +119,7 @@ pub fn number_word_of(word: &[u8]) -> Option<NumberWord>
     }
 }
 
-/// Returns the first word of a line that has a pair, a side, a queue and bytes, where it is one.
+/// Returns the first word of a line that has a pair, a side, a queue and bytes, if it is one.
 pub fn frame_word_of(word: &[u8]) -> Option<FrameWord>
     ensures { option_map frame_steps_of result ≡ frame_steps word.now }
 {

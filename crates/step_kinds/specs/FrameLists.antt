@@ -22,7 +22,7 @@ with_last list frame = record { frames = list.frames ++ frame ∷ []; spare = li
 abbrev pub with_first : Frames → List ℕ → Frames
 with_first list frame = record { frames = frame ∷ list.frames; spare = list.spare - 1 }
 
--- the first frame, where there is one, is taken out, and its room is promised again
+-- the first frame, if there is one, is taken out, and its room is promised again
 abbrev pub frames_without_first : Frames → Frames
 frames_without_first list = record { frames = drop 1 list.frames; spare = list.spare + min 1 (length list.frames) }
 

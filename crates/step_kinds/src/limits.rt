@@ -60,9 +60,9 @@ pub const LEAST_SIZE: u64 = 4096;
 pub const MOST_SIZE: u64 = 268_435_456;
 /// Sizes in bytes of windows are multiples of this.
 pub const SIZE_STEP: u64 = 4096;
-/// The smallest largest transfer unit of a pair, in bytes.
+/// The smallest MTU of a pair, in bytes.
 pub const LEAST_MTU: u32 = 16;
-/// The largest largest transfer unit of a pair, in bytes.
+/// The largest MTU of a pair, in bytes.
 pub const MOST_MTU: u32 = 65_536;
 /// The most bytes of a script: 16 MiB.
 pub const MOST_SCRIPT_BYTES: usize = 16_777_216;

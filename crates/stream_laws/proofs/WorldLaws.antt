@@ -90,7 +90,7 @@ no_answer_is_bad items events few = all_good items 0 (new_world items) events fe
 abbrev IsDone : World → Type 0
 IsDone w = length (frames_of w.sender) ≤ w.sender.place.given
 
--- it stays so, where the session isn't lost and no frame given back
+-- it stays so, if the session isn't lost and no frame given back
 next_done : (w : World) (o : Option (List ℕ)) → IsDone w → IsDone (after_next w o)
 next_done w None done = done
 next_done w (Some frame) done = omega arith

@@ -106,7 +106,7 @@ next_held items w held (Some frame) e =
       acks = held.acks;
     }
 
--- GiveBack, where it can be made
+-- GiveBack, if it can be made
 back_held : (items : List (List ℕ)) (w : World) → IsHeld items w → (o : Option Place) → w.sender.before ≡ o → is_some o ≡ true → w.forward.carried < length w.forward.given
     → IsHeld items (record w { sender = back_at w.sender o; forward = record w.forward { given = take (length w.forward.given - 1) w.forward.given } })
 back_held items w held None e some waits = absurd (false≢true some)

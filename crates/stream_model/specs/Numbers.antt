@@ -6,7 +6,7 @@ use Rattle.byteorder.specs.Endian.{little_bytes, little_number}
 unfoldable pub number_frame : ℕ → List ℕ
 number_frame number = little_bytes 4 number
 
--- the number that a frame says, where it has four bytes
+-- the number that a frame says, if it has four bytes
 unfoldable pub number_in : List ℕ → Option ℕ
 number_in frame = if length frame == 4 then Some (little_number 4 frame) else None
 

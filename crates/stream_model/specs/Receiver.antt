@@ -32,7 +32,7 @@ answer_in Spoiled count frame = Bad
 abbrev pub take_answer : Receiver → List ℕ → TakeAnswer
 take_answer receiver frame = answer_in receiver.session (length receiver.items) frame
 
--- an item of a number joins, where it is the next that the receiver lacks
+-- an item of a number joins, if it is the next that the receiver lacks
 abbrev pub stream_joined : List (List ℕ) → ℕ → List ℕ → List (List ℕ)
 stream_joined items number frame = if number == length items then items ++ frame ∷ [] else items
 

@@ -101,7 +101,7 @@ pub data EndAnswer : Type 0 where
   Took : (answer : TakeAnswer) → EndAnswer
   TookAck : (answer : AckAnswer) → EndAnswer
 
--- what an event's call answers, where it makes one of the three
+-- what an event's call answers, if it makes one of the three
 abbrev pub answer_to : World → StreamEvent → Option EndAnswer
 answer_to world Next = Some (Gave (next_frame world.sender))
 answer_to world GiveBack = None

@@ -31,7 +31,7 @@ sees_index_out_allowed N slots id me i is has board h counted at fits =
     let low : part.freed ≤ length m.send.sent = omega (arith, o.freed, o.acked, o.cleared, o.looked, o.taken) in
     load_keeps (sees_index_out me found) me.1 after i seat seat.now.knows (subst (λ (index : ℕ). ShowsLane N (record m { back = record part { index = index } }) board.homes) (sym word) loaded) (refl, omega arith, omega arith)
 
--- The rule of a table allows the way back to store the index that it loaded, where that one is new.
+-- The rule of a table allows the way back to store the index that it loaded, if that one is new.
 pub stores_index_allowed : (N slots id : ℕ) (me : Sitter) (i new : ℕ) → i ≡ index_word N → new ≡ (the_back me.0).index → HasBack me.0 → (the_back me.0).entries ≡ N → (the_back me.0).index ≢ tail_of N (the_back me.0).freed
     → Allows (ShowsALane N) slots id me i (λ _. new) (λ _. stores_index me new)
 stores_index_allowed N slots id me i new is index has entries newer =

@@ -3,7 +3,7 @@ use Rattle.std.proofs.Common.{◌≡◌, ℕ, zero, suc, ◌+◌, ◌<◌, ◌�
 use Rattle.table_lane.specs.LaneNames.{Entry, GoesDown, Write, Flag, Bell, data_of, writes_of}
 use Rattle.table_lane.specs.ShownLane.{table_in_flight}
 
--- the fields of an entry, where its header is not stored
+-- the fields of an entry, if its header is not stored
 abbrev fields_left : ℕ → List Bool → Entry → List Write
 fields_left n stored entry = if get_or stored 0 false then [] else data_of n entry
 

@@ -9,7 +9,7 @@ use Rattle.table_lane.proofs.Facade.{number_is}
 pub position_below : (N n position : ℕ) → 2 ≤ N → position ≡ n % N → position < N
 position_below N n position two at = let small : n % N < N = mod-lt n (omega (arith, two)) in omega arith
 
--- the position of a later entry, where it is before the end of the ring
+-- the position of a later entry, if it is before the end of the ring
 pub position_further : (N n position more further : ℕ) → position ≡ n % N → further ≡ position + more → further < N → further ≡ (n + more) % N
 position_further N n position more further at is below = sym (mod-eq_of_lt below) ∙ ap (λ k. k % N) is ∙ ap (λ k. (k + more) % N) at ∙ mod-add-mod n N more
 

@@ -19,7 +19,7 @@ use Rattle.table_lane.proofs.Headers.{no_headers}
 use Rattle.table_lane.proofs.Seats.{GoesToOne, part_splits, part_joins}
 use Rattle.table_lane.proofs.Slots.{slot_is}
 
--- the same moment, where seats have its parts otherwise
+-- the same moment, if seats have its parts otherwise
 moment_stays : (N : ℕ) (board : Board) (m : Moment) (views : List LaneView) → IsMoment N m board → EachHasOneSeat views m.send m.mover m.recv m.back m.cut → IsMoment N m (record board { views = views })
 moment_stays N board m views now seats = record { words = now.words; sized = now.sized; seats = seats; knows = now.knows; shows = now.shows }
 

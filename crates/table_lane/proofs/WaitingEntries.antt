@@ -106,7 +106,7 @@ module _ (N first next : ℕ) (waits : List ℕ) (me : Sitter) (h : MovesWith N 
         few = h.few;
       }
 
-  -- the first slot, where the header of the first held entry is stored
+  -- the first slot, if the header of the first held entry is stored
   pub first_slot : get_or part.stored 0 false ≡ true
       → (frame : List ℕ) × (me.1 ≡ (first % N, Some frame) ∷ rest me.1) × (part.held ≡ frame ∷ drop 1 part.held) × (part.stored ≡ true ∷ drop 1 part.stored)
   first_slot up = of_lists part.held part.stored h.marks h.slots up

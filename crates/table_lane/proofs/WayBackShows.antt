@@ -62,7 +62,7 @@ gives_back N k sent slots freed a b c d e f g near stand = record {
   ];
 }
 
--- the index that was loaded is stored, where it is new
+-- the index that was loaded is stored, if it is new
 pub stores_index : StoresIndex
 stores_index N m slots new h =
     let o = in_order N m slots h in

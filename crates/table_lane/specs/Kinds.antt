@@ -14,7 +14,7 @@ use Rattle.table_lane.specs.Moment.{Moment, ShowsLane}
 use Rattle.table_lane.specs.LaneNames.{Look, Copy, Clear, Acknowledge, LaneRuns}
 use Rattle.table_lane.specs.LaneSteps.{send_steps, header_steps, flag_steps, index_steps}
 
--- a sender that has no slot takes that of the next entry, where the index word shows room
+-- a sender that has no slot takes that of the next entry, if the index word shows room
 abbrev pub Claims : Type 0
 Claims = (N : ℕ) (m : Moment) (slots : Slots) → m.send.claims ≡ false → 0 < free_entries N (head_of N (length m.send.sent)) m.words.index → ShowsLane N m slots
     → (get_elem? slots (length m.send.sent % N) ≡ some empty) × ShowsLane N (record m { send = record m.send { claims = true } }) (slice_set slots (length m.send.sent % N) out)
@@ -27,7 +27,7 @@ Sends = (N : ℕ) (m : Moment) (slots : Slots) (frame : TableBytes) → m.send.c
     (record m { words = record m.words { posted = slice_set m.words.posted (length m.send.sent % N) (table_header_of (length m.send.sent)) }; lane = lane; send = record m.send { sent = m.send.sent ++ frame ∷ []; claims = false } })
     (slice_set slots (length m.send.sent % N) (some (Some frame)))
 
--- the mover takes the slot of the next entry, where its posted header is new
+-- the mover takes the slot of the next entry, if its posted header is new
 abbrev pub Takes : Type 0
 Takes = (N : ℕ) (m : Moment) (slots : Slots) (n : ℕ) → n ≡ m.mover.flagged + length m.mover.held → slice_index m.words.posted (n % N) ≡ table_header_of n → ShowsLane N m slots
     → (n < length m.send.sent) × (get_elem? slots (n % N) ≡ some (full m.send.sent n))
@@ -47,7 +47,7 @@ StoresFlag = (N : ℕ) (m : Moment) (slots : Slots) (frame : TableBytes) (held :
     (record m { words = record m.words { flags = slice_set m.words.flags (m.mover.flagged % N) done }; lane = lane; mover = record m.mover { flagged = m.mover.flagged + 1; held = held; stored = stored } })
     (slice_set slots (m.mover.flagged % N) (some (Some frame)))
 
--- an idle receiver takes the slot of the next entry, where its flag is up
+-- an idle receiver takes the slot of the next entry, if its flag is up
 abbrev pub Looks : Type 0
 Looks = (N : ℕ) (m : Moment) (slots : Slots) (n : ℕ) → n ≡ length m.recv.got → m.recv.phase ≡ Idle → slice_index m.words.flags (n % N) ≡ done → ShowsLane N m slots
     → (get_elem? slots (n % N) ≡ some (full m.send.sent n)) × (n < length m.send.sent)
@@ -76,7 +76,7 @@ Acknowledges = (N : ℕ) (m : Moment) (slots : Slots) (n : ℕ) → n + 1 ≡ le
 abbrev pub LoadsIndex : Type 0
 LoadsIndex = (N : ℕ) (m : Moment) (slots : Slots) → ShowsLane N m slots → ShowsLane N (record m { back = record m.back { index = m.words.index_out } }) slots
 
--- it stores the index that it loaded, where it is new
+-- it stores the index that it loaded, if it is new
 abbrev pub StoresIndex : Type 0
 StoresIndex = (N : ℕ) (m : Moment) (slots : Slots) → m.back.index ≢ tail_of N m.back.freed → ShowsLane N m slots
     → (lane : Lane) × LaneRuns (index_steps m.lane.freed (number_at N m.back.freed m.back.index + 1 - m.lane.freed)) m.lane lane

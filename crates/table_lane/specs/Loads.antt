@@ -11,8 +11,8 @@ use Rattle.table_lane.specs.Plays.{Tells, sees_link, sees_index, stores_posted, 
 use Rattle.table_lane.specs.Rule.{Board, IsMoment, Sitter}
 use Rattle.table_lane.specs.Views.{LaneView, PartKind, alone, table_joined, no_parts, the_cut, without}
 
--- The table shows the same lane after a load with which no slot goes to the seat: of the link word, the index word, a
--- posted header or a flag. Of the link word the sender keeps what stands there.
+-- A load that transfers no slot leaves the abstract lane unchanged: a load of the link word, the index word, a posted
+-- header or a flag. The sender keeps the value of the link word.
 pub record StillShown (N : ℕ) (m : Moment) (slots : Slots) (found : ℕ) : Type 0 where
   pub link : found ≡ m.words.link → ShowsLane N (record m { send = link_loaded m.send found }) slots
   pub index : ShowsLane N (record m { send = index_loaded m.send found }) slots

@@ -67,9 +67,9 @@ stores_header word before found after =
 abbrev pub stores_flag : Tells
 stores_flag before found after = after ≡ (with_move before.0 (flag_stored (the_move before.0)), rest before.1)
 
--- If the flag is up, the slot of the next entry goes to the receiver. Who has the mover's part too knows that it is up
--- where the mover has stored it. Who has the sender's part too knows that what was received is how what was sent
--- begins.
+-- If the flag is up, the slot of the next entry goes to the receiver. A seat that also holds the mover's state knows
+-- that the flag is set once the mover has stored it. A seat that also holds the sender's state knows that what was
+-- received is a prefix of what was sent.
 abbrev pub sees_flag : Tells
 sees_flag before found after =
     let part = the_recv before.0 in

@@ -87,7 +87,7 @@ fn move_all(board: &Board, seat: &mut LaneSeat, entries: u64, from: u64)
     }
 }
 
-// Receives all frames that are left in the ring, where all entries are moved. The list has room for them.
+// Receives all frames that are left in the ring, if all entries are moved. The list has room for them.
 fn drain(board: &Board, seat: &mut LaneSeat, entries: u64, got: u64, left: &mut FrameList)
     requires table { (seat.old.table_id ≡ board.now.table_id) × IsTableOf entries board.now.table_id board.now.key }
     requires parts { HasAll seat.old.me × IsReady entries got (the_recv seat.old.me.0) × (length (the_send seat.old.me.0).sent ≤ (the_move seat.old.me.0).flagged) }

@@ -157,7 +157,7 @@ impl MoveEnd {
     }
 
     /// Makes one move. The first open moves are the header of each held entry that waits for it, by rising number. The
-    /// last one is the flag of the first held entry, where its header is stored. Of these and a load of the next posted
+    /// last one is the flag of the first held entry, if its header is stored. Of these and a load of the next posted
     /// header, the one whose number is `choice` modulo their count is made. If that load shows a new header, the entry
     /// is taken; else the first open move is made, and where there is none the answer is `Idle`.
     pub fn step(&mut self, choice: u64) -> MoveAnswer

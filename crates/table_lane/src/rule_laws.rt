@@ -15,7 +15,7 @@ pub fn slots_are_with_their_owners()
 /// entry goes to the sender, these are none. If its posted header is stored, the entry is begun and all its writes are
 /// posted.
 ///
-/// The slot goes to a sender that has none, where the index word shows room. A header is stored by a sender that has a
+/// The slot goes to a sender that has none, if the index word shows room. A header is stored by a sender that has a
 /// slot, for a frame of at most 65,536 bytes. Before it fewer than 2^62 frames were sent, and each position has its
 /// words.
 #[tactic(auto, using(crate::proofs::SenderShows::claims, crate::proofs::SenderShows::sends))]

@@ -76,8 +76,8 @@ struct Counts {
     written: Vec<u8>,
 }
 
-// Returns what words over the script come to, where the source gives and the sink takes at most this many bytes a call.
-// It may be out of memory.
+// Returns what words over the script come to, if the source gives and the sink takes at most this many bytes a call. It
+// may be out of memory.
 fn counts_of<R: Threads + Wait + Sync>(
     rt: &R,
     alloc: Global,

@@ -1,4 +1,4 @@
-//! The turns that the workers of two lanes tell a gate, where one lane's link is lost.
+//! The turns that the workers of two lanes tell a gate, if one lane's link is lost.
 
 use crate::answers::answer_to;
 use crate::reads::{MORE_READS, READS, READS_TO_YIELD};

@@ -57,8 +57,8 @@ module _ (plan : Plan) (pair : ℕ) (now : Outbox) where
   refused_fits p Done is = absurd (false≢true is)
   refused_fits p r is = tt
 
-  -- the answer to a step on a pair, where the writes left to post are their lanes', and the outbox says whether this
-  -- pair is up
+  -- the answer to a step on a pair, if the writes left to post are their lanes', and the outbox says whether this pair
+  -- is up
   pub answer_fits : (own : PairPlan) (bytes : Bytes) (part : PairPart) (step : Step) → OwnTodos part
       → ((p : ℕ) → step ≡ DropDone p → p == pair ≡ true → now.up ≡ link_up part)
       → Fits plan pair now (record { step = step; answer = (pair_next plan.devs own bytes part step).answer })

@@ -31,7 +31,7 @@ landed_where false flight rest (inr same) = sym same
 removed_past : (flight : List FlyingWrite) (place : ℕ) → length flight ≤ place → remove flight place ≡ flight
 removed_past flight place past = rw (take_all place flight past, drop_all (suc place) flight (omega arith)) (append-nil flight)
 
--- each write lands, where there is one
+-- each write lands, if there is one
 pub each_lands : (flight : Flight FlyingWrite) (place : ℕ) → (flight_after_landing free flight place).writes ≡ remove flight.writes place
 each_lands flight place =
     landed_where (may_land (map free flight.writes) place) flight (remove flight.writes place)

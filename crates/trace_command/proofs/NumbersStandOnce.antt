@@ -219,7 +219,7 @@ module _ (plan : Plan) (memories : Memories) (pair : ℕ) (side : Side) (n : ℕ
           (change_inside plan pair side (pair_writes plan (log_of plan memories done) pair) (flying_after plan pair side (log_of plan memories done)).flight (as_many done)
           (made_next plan pair side memories done step) (next_lands plan pair side memories done step)) now)
 
--- each number stands once among what landed, was dropped or is in flight
+-- Each write that was posted landed, was dropped, or is in flight, exactly once.
 pub each_number_stands_once : EachNumberStandsOnce
 each_number_stands_once plan memories steps pair side n =
     often-append n landed (dropped ++ flying) ∙ ap (λ rest. how_often n landed + rest) (often-append n dropped flying)

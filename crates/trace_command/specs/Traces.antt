@@ -38,7 +38,7 @@ pub record IsTrueTrace (plan : Plan) (memories : Memories) (lines : List Answere
       line.step ≡ Land pair side place → line.made.answer ≡ Blocked →
       IsStoppedBy plan (bridges_after plan memories before) pair side place (stopped_by (traced_side plan before pair side).flight place)
 
--- so it is of each pair, where the lines have the answers of the log
+-- so it is of each pair, if the lines have the answers of the log
 abbrev pub PairTracesAreTrue : Type 0
 PairTracesAreTrue = (plan : Plan) (memories : Memories) (lines : List AnsweredStep) (pair : ℕ) (side : Side) → HaveTheirAnswers plan memories lines →
     pair < length plan.pairs → IsTrueTrace plan memories lines pair side

@@ -104,7 +104,7 @@ pub fn queue_post(pairs: &[PairPlan], pair: u32, side: Side, queue: u32, label: 
     }
 }
 
-// Returns whether a write that a side posts is in flight then, where the link is up.
+// Returns whether a write that a side posts is in flight then, if the link is up.
 fn goes_through(pairs: &[PairPlan], pair: u32, side: Side, label: &Label) -> bool
     ensures { result ≡ is_through (slice_index_or pairs.now pair no_pair) side label.now }
 {

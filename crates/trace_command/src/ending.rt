@@ -47,7 +47,7 @@ fn push_lanes(
     Ok(())
 }
 
-// Adds the line of what a lane accepted and delivered, where either isn't 0.
+// Adds the line of what a lane accepted and delivered, if either isn't 0.
 fn push_count(text: &mut Vec<u8>, pairs: &[PairPlan], count: &LaneCount) -> Result<(), AllocError>
     ensures { OnOk result (text.new.items ≡ text.old.items ++ trace_count_lines pairs.now count.now) }
 {

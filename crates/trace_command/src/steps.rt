@@ -179,7 +179,7 @@ fn push_step_members(text: &mut Vec<u8>, plan: &Plan, step: &Step) -> Result<(),
     }
 }
 
-/// Returns what a step on one of these pairs changes, where it was answered so.
+/// Returns what a step on one of these pairs changes, if it was answered so.
 pub fn change_in(pairs: &[PairPlan], step: &Step, answer: &Answer) -> Change
     ensures { result ≡ change_of_pairs pairs.now step.now answer.now }
 {

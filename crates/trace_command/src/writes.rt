@@ -157,8 +157,8 @@ pub struct PairNumbers {
 }
 
 impl PairNumbers {
-    /// Returns a pair before any step, where its link is declared up or isn't: one that is up is in session 1. It takes
-    /// no memory yet.
+    /// Returns a pair before any step, if its link is declared up or isn't: one that is up is in session 1. It takes no
+    /// memory yet.
     pub fn new(alloc: Global, up: bool) -> PairNumbers
         ensures { result ≡ pair_start (record no_pair { up = up }) }
     {
@@ -283,8 +283,8 @@ impl WriteNumbers {
         }
     }
 
-    /// What a step of a script on these pairs changes, where it was answered so: a write more, a write less, no writes,
-    /// a link that is up or isn't. A step on a pair that isn't there changes nothing. Returns an error if memory runs
+    /// What a step of a script on these pairs changes, if it was answered so: a write more, a write less, no writes, a
+    /// link that is up or isn't. A step on a pair that isn't there changes nothing. Returns an error if memory runs
     /// out, which is also the answer where a side has posted 2^64 - 1 writes.
     pub fn follow(
         &mut self,

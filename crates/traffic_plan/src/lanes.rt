@@ -8,7 +8,7 @@ ghost use Rattle.traffic_plan.specs.Lanes.{frames_on, with_frames};
 use std::alloc::{AllocError, Global};
 use step_kinds::{FrameList, LaneName, Plan, Traffic};
 
-/// Adds a copy of an item's frame to a list, where it is sent on the lane.
+/// Adds a copy of an item's frame to a list, if it is sent on the lane.
 fn push_on(
     alloc: Global,
     list: &mut FrameList,

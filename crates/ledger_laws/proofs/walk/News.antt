@@ -27,7 +27,7 @@ pub record News : Type 0 where
   -- frames of the lane
   pub accepted : List Numbered
   pub delivered : List Numbered
-  -- whether the receiver's last look was empty, where it was so before
+  -- whether the receiver's last look was empty, if it was so before
   pub sees : Bool → Bool
   -- what landed last in a scratchpad of an end
   pub pads : Role → ℕ → Option ℕ → Option ℕ

@@ -112,7 +112,7 @@ with_clean = with_field (λ own. own.clean) (λ clean own. record own { clean = 
 abbrev pub with_enabled : Role → Bool → Sight → Sight
 with_enabled = with_field (λ own. own.enabled) (λ enabled own. record own { enabled = enabled })
 
--- the side of an end, where the lane's sender is this side
+-- the side of an end, if the lane's sender is this side
 abbrev pub side_at : Side → Role → Side
 side_at from Sender = from
 side_at from Receiver = other_side from

@@ -192,7 +192,7 @@ pub pad_in_ring : (q i value : ℕ) (e : Role) (lane : LanePart) (sizes : Sizes)
 pad_in_ring q i value Sender lane sizes ring = refl
 pad_in_ring q i value Receiver lane sizes ring = refl
 
--- A write that isn't the lane's, where it lands, changes neither slots nor index word of the lane.
+-- A write that isn't the lane's, if it lands, changes neither slots nor index word of the lane.
 pub foreign_in_ring : (q : ℕ) (e : Role) (label : Label) (lane : LanePart) (sizes : Sizes) (ring : RingPart) → IsForeign q e label → ring_heard q e label lane sizes ring ≡ ring
 foreign_in_ring q Sender label lane sizes ring none = ap (λ w. record { ring = with_write sizes.entries lane ring.ring w; index_word = ring.index_word }) none
 foreign_in_ring q Receiver label lane sizes ring none = ap (λ n. record { ring = ring.ring; index_word = with_index sizes.entries ring.index_word n }) none
@@ -202,7 +202,7 @@ pub pad_no_change : (q i value : ℕ) (e : Role) → change_heard q e (Pad i val
 pad_no_change q i value Sender = refl
 pad_no_change q i value Receiver = refl
 
--- A write that isn't the lane's, where it lands, is no change of the lane.
+-- A write that isn't the lane's, if it lands, is no change of the lane.
 pub foreign_no_change : (q : ℕ) (e : Role) (label : Label) → IsForeign q e label → change_heard q e label ≡ Unchanged
 foreign_no_change q Sender label none = ap change_by_write none
 foreign_no_change q Receiver label none = ap change_by_index none

@@ -139,7 +139,7 @@ pub record MayStray (raw : Bool) (q : ℕ) (before after : LanePart) : Type 0 wh
   pub own : list_all (on_queue q) after.todo ≡ true
   pub hand : (hand_of after ≡ hand_of before) ⊎ ((is_cleared before.phase ≡ true) × (hand_of after ≡ record (hand_of before) { phase = Idle }))
 
--- not a write of this lane, where this end posts it
+-- not a write of this lane, if this end posts it
 abbrev pub IsForeign : ℕ → Role → Label → Type 0
 IsForeign q Sender label = write_of q label ≡ None
 IsForeign q Receiver label = label_index_of q label ≡ None

@@ -1,4 +1,4 @@
--- The turn that a step of a pair is for a lane, where the pair after the step is seen as a sight in closed form.
+-- The turn that a step of a pair is for a lane, if the pair after the step is seen as a sight in closed form.
 use Rattle.std.proofs.Common.{◌≡◌, Bool, true, false, sym, ap, subst, inl, inr}
 use Rattle.step_kinds.specs.declared.names.LaneName.{LaneName}
 use Rattle.step_kinds.specs.declared.plan.Plan.{Plan}
@@ -32,7 +32,7 @@ module _ (plan : Plan) (lane : LaneName) (pair : PairPart) where
   pub refusal : (step : Step) → is_look step ≡ false → (r : Answer) (b : Bool) → Refused b r → TurnAt plan lane pair step (record { answer = r; after = pair })
   refusal step not_look r b is = rests step r (unread-refused step r not_look is.is)
 
--- what a step reads of rings: the ledger, where the pair isn't raw
+-- what a step reads of rings: the ledger, if the pair isn't raw
 abbrev pub ReadsLedger : Plan → LaneName → PairPart → Reading → Type 0
 ReadsLedger plan lane pair reading = IsRaw plan lane ≡ false → reading ≡ by_ledger (pair_plan plan lane.pair) pair
 

@@ -1,4 +1,4 @@
--- The answers to the steps so far are in the text, where outcomes differ.
+-- The answers to the steps so far are in the text, if outcomes differ.
 use Rattle.std.proofs.Common.{◌≡◌, ◌++◌}
 use Rattle.std.specs.List.{flat_map, range_with_len}
 use Rattle.explore_model.specs.Texts.{differing_line}

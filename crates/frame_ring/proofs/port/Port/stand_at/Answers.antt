@@ -54,7 +54,7 @@ flags_grown c =
     (subst (λ (n : ℕ). PagesGrow (Touches (own_header port.plan port.side port.queue n + flags_offset port.plan) 4) (pages_of c.promise_index_word.new.pair port.side) (pages_of c.promise_flags.new.pair port.side)) c.got-got.ensures.value
     c.promise_flags.ensures.pages)
 
--- What was promised, where numbers or memory ran out, and where they didn't
+-- What was promised, if numbers or memory ran out, and where they didn't
 
 pub returns-then-not-has_numbers-clause-promises : goal.returns-then-not-has_numbers-clause-promises
 returns-then-not-has_numbers-clause-promises c =
