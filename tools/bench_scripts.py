@@ -22,12 +22,12 @@ def frames(count: int, length: int, options: str) -> str:
 
 
 def flight(count: int) -> str:
-    """So many frames of one byte in flight, and then landed from the front."""
+    """This many frames of one byte in flight, and then landed from the front."""
     return head_of(FEW) + count * "send p A 0 61\n" + f"landall p A {5 * count}\n"
 
 
 def lines(count: int, text: str) -> str:
-    """A line so many times."""
+    """A line this many times."""
     return head_of(SMALL) + count * f"{text}\n"
 
 
@@ -39,7 +39,7 @@ def wide(count: int) -> str:
 
 
 def pushed(count: int) -> str:
-    """So many times a write, a read, and the landings of both."""
+    """This many times a write, a read, and the landings of both."""
     return "reads 1\n" + count * "write A 0 61 strict\nread A 0 1\nland A 0\nland A 0\n"
 
 
@@ -68,6 +68,6 @@ def section_of(name: str) -> str:
 
 
 def two_frames(size: int) -> str:
-    """Two frames of so many bytes, sent on two queues of two classes, and looked for."""
+    """Two frames of this many bytes, sent on two queues of two classes, and looked for."""
     frame = size * "00"
     return f"{TWO_CLASSES}send p A 0 {frame}\nsend p A 1 {frame}\nlook p B 1\nlook p B 0\n"

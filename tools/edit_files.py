@@ -34,7 +34,7 @@ class Malformed(Exception):
 
 @dataclass(frozen=True)
 class Line:
-    """A line of a file of edits: where it stands, and its text."""
+    """A line of a file of edits: its place, and its text."""
 
     file: str
     number: int

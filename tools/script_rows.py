@@ -132,7 +132,7 @@ TOO_MANY = fault("a word too many", "1 unknownword", more=" x")
 
 
 def too_few(last: int) -> Fault:
-    """Words are missing, and so many are left."""
+    """Words are missing, and this many are left."""
     return fault("a word too few", "1 unknownword", kept=last)
 
 
@@ -175,7 +175,7 @@ ODD = "616"
 
 
 def many(count: int, text: str) -> str:
-    """A text so many times."""
+    """A text this many times."""
     return text * count
 
 
@@ -554,7 +554,7 @@ def parts() -> Iterator[Row]:
 
 
 def rows(seed: int, count: int = RANDOM) -> List[Row]:
-    """All rows, and so many random scripts of a seed."""
+    """All rows, and this many random scripts of a seed."""
     made: List[Row] = []
     for subject in subjects():
         made += subject.rows()

@@ -223,7 +223,7 @@ class Line:
         return pair, side, self.queue(pair, side)
 
     def hex(self, digits: Optional[int] = None) -> int:
-        """Hexadecimal digits, so many or an even number of them; how many bytes they are."""
+        """Hexadecimal digits, this many or an even number of them; how many bytes they are."""
         word = self.take()
         right = len(word) == digits if digits else len(word) >= 2 and len(word) % 2 == 0
         if not right or not re.fullmatch(r"[0-9a-fA-F]+", word):
@@ -264,14 +264,14 @@ class Line:
         pair.options[key] = value
 
     def add_steps(self, count: int = 1) -> None:
-        """Makes so many steps more, as the last test of the line."""
+        """Makes this many steps more, as the last test of the line."""
         if self.script.steps + count > MOST_STEPS:
             refuse(0, "toomany")
         self.script.steps += count
 
 
 def keep(kind: str, count: int) -> None:
-    """The limit of hosts, pairs, devices and switches, of which so many stand before."""
+    """The limit of hosts, pairs, devices and switches, of which this many stand before."""
     if count >= MOST_OF[kind]:
         refuse(0, "toomany")
 
@@ -467,7 +467,7 @@ def xnext(line: Line) -> None:
 
 
 def add_traffic(line: Line, lane: Tuple[Pair, str, int], count: int, length: int) -> None:
-    """So many frames of so many bytes: whether a slot takes them, whether the pair may have them, and the limits."""
+    """This many frames of this many bytes: whether a slot takes them, whether the pair may have them, and the limits."""
     pair, side, queue = lane
     ring = pair.lane(side, queue)
     if length > ring.payload or ring.entries > MOST_ENTRIES:

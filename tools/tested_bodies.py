@@ -36,9 +36,9 @@ pub(crate) fn is_chosen(body: u8) -> bool {
     CHOSEN[33] == body
 }
 """
-# A test may take so many seconds, and so many times those that it takes without a body.
+# A test may take this many seconds, and this many times those that it takes without a body.
 LEAST_SECONDS, TIMES = 60, 8
-# Without a body it may take so many.
+# Without a body it may take this many.
 MOST_SECONDS = 1800
 # The processes that run now, and the folders: they go if this process does.
 RUNNING: set[subprocess.Popen[bytes]] = set()

@@ -43,7 +43,7 @@ def cut(text: str, most: int, few: int) -> str:
 
 
 def shortened(text: str, most: int) -> str:
-    """A text of at most so many characters."""
+    """A text of at most this many characters."""
     return text if len(text) <= most else text[: most - 2] + ".."
 
 
@@ -136,7 +136,7 @@ def words_of(text: str) -> list[str]:
 
 
 def content(word: str, what: str, most: int = -1) -> bytes:
-    """What a file has, or a pipe, or standard input where the word is `-`; so many bytes of it at most."""
+    """What a file has, or a pipe, or standard input where the word is `-`; this many bytes of it at most."""
     if word == "-" and sys.stdin is not None and sys.stdin.isatty():
         print(f"ntbsim: the {what} is read from this terminal, up to Ctrl-D", file=sys.stderr)
     try:

@@ -41,7 +41,7 @@ BOARD = ["<style>", style("texts", "switches"), "</style>", f"<defs>{arrowhead('
 Row = NamedTuple("Row", [("line", int), ("side", str), ("look", Look), ("text", str)])
 # A state of the link, from the middle of a row on.
 Band = NamedTuple("Band", [("row", int), ("link", str), ("session", int)])
-# A write from its post to its end, and its place among so many that ended there.
+# A write from its post to its end, and its place among this many that ended there.
 Arrow = NamedTuple("Arrow", [
     ("side", str), ("kind", str), ("queue", Optional[int]), ("posted", int),
     ("how", End), ("ended", int), ("place", int), ("of", int),
@@ -177,7 +177,7 @@ class Flight:
             lane.entries[stage] = max(lane.entries[stage], number + 1)
 
     def row(self, step: StepLine, last: StepLine, many: int) -> Row:
-        """The row of so many steps, by the first and the last: the answer, with what it means."""
+        """The row of this many steps, by the first and the last: the answer, with what it means."""
         name, changes, more, said = step.name, step.changes, "", step.said
         if step.pair != self.name:
             text = last.said if said == last.said else f"{cut(said, 8, 4)} .. {last.said}"

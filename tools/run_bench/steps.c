@@ -7,7 +7,7 @@
  * and then their flags, so it draws no choice. Passes end after 16 idle turns, and workers look for news of one another, as in
  * cluster_run. No frame is made, kept or compared: a slot has a number.
  *
- * steps TIMES: prints the least microseconds of so many runs, for each ring. */
+ * steps TIMES: prints the least microseconds of this many runs, for each ring. */
 #define _GNU_SOURCE
 #include <pthread.h>
 #include <sched.h>

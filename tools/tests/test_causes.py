@@ -71,7 +71,7 @@ PEAK = """import resource, subprocess, sys
 subprocess.run(sys.argv[1:], check=True)
 print(resource.getrusage(resource.RUSAGE_CHILDREN).ru_maxrss)
 """
-# A run whose links are lost is to end within so many seconds.
+# A run whose links are lost is to end within this many seconds.
 MOST_SECONDS = 120
 TRAFFIC = "traffic\nflood p A 0 200 8\nflood p B 0 200 8\nflood q A 0 200 8\n"
 # Of a stream whose link is lost 40 times, sessions that all began at the first item would bring 20 times as many. A

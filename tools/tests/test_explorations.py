@@ -69,7 +69,7 @@ class Texts(unittest.TestCase):
                 self.has_form(done.stdout.decode("latin-1"), steps_of(script))
 
     def has_form(self, text: str, steps: int) -> None:
-        """A text has the form that it should have for so many steps."""
+        """A text has the form that it should have for this many steps."""
         head, rest = text.split("\n", 1)
         many, found = HEAD.fullmatch(head), outcomes_in(rest)
         answers = [answers for _, answers in found]

@@ -19,9 +19,9 @@ COUNTS = {
     "stream": (b"stream p A 0 items 5000 sessions 1\n", b"stream q A 0 items 1 sessions 1\n"),
 }
 LINES = FRAMES + 1 + 2 + 1
-# A run that lacks memory is to end within so many seconds.
+# A run that lacks memory is to end within this many seconds.
 MOST_SECONDS = 120
-# So many sizes are tried, of which so many are below one that let a whole run end. How much a run of several threads
+# This many sizes are tried, of which this many are below one that let a whole run end. How much a run of several threads
 # takes differs from time to time; with the last size, the largest, each has enough. A thread's stack is small beside
 # them.
 MOST_SIZES, MOST_STEPS = 64, 56
@@ -30,7 +30,7 @@ STACK = 1 << 19
 
 
 def limited(command: str, size: int) -> subprocess.CompletedProcess[bytes]:
-    """What the program answers to a command, where its data has at most so many bytes."""
+    """What the program answers to a command, where its data has at most this many bytes."""
 
     def limit() -> None:
         resource.setrlimit(resource.RLIMIT_STACK, (STACK, STACK))

@@ -16,9 +16,9 @@ from script_rules import said_of  # noqa: E402
 
 # The seed of the random scripts, and how many come of it.
 SEED, RANDOM = 2027, 300
-# So many rows there are at least: who lost some of the generator's lines would test less without a word.
+# There are at least this many rows: who lost some of the generator's lines would test less without a word.
 LEAST = 2_500
-# And so many rows stand in files.
+# And this many rows are in files.
 LEAST_FILES = 2_000
 AT_ONCE = 4
 
