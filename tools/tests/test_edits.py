@@ -1,4 +1,4 @@
-"""The files of wrong bodies and of wrong definitions: what is read in them, and what is refused, with file and line."""
+"""Edits of sources: the files of wrong bodies and of wrong definitions, and tools/rename."""
 
 from __future__ import annotations
 
@@ -42,6 +42,81 @@ must-fail crates/two/must-fail/forgets.edit: old: f
 must-fail crates/two/must-fail/forgets.edit: new: g
 """
 
+# A small tree for tools/rename: `taken` has two homes, is used with and without `as`, and is named in an edit.
+TREE = {
+    "crates/one/specs/Parts.antt": """-- What is taken.
+use Rattle.std.specs.Prelude.{◌≡◌, ℕ}
+
+-- taken as it is
+abbrev pub taken : ℕ → ℕ
+taken n = n
+
+pub record IsPart (n : ℕ) : Type 0 where
+  pub is : taken n ≡ n
+""",
+    "crates/one/src/lib.rt": """ghost use Rattle.one.specs.Parts.{taken, IsPart};
+
+/// What is taken.
+pub fn taken_of(n: u32) -> u32
+    ensures { IsPart (taken n) }
+{
+    n
+}
+""",
+    "crates/two/specs/Others.antt": """use Rattle.std.specs.Prelude.{ℕ}
+
+abbrev pub taken : ℕ → ℕ
+taken n = n + n
+""",
+    "crates/two/specs/Uses.antt": """use Rattle.std.specs.Prelude.{ℕ}
+use Rattle.one.specs.Parts.{taken}
+use Rattle.two.specs.Others.{taken as given}
+
+abbrev pub twice : ℕ → ℕ
+twice n = taken (taken n) + given n
+""",
+    "tools/wrong_bodies/one.edits": """# one/takes-more
+file: specs/Parts.antt
+old: taken n = n
+new: taken n = n + 1
+""",
+    "tools/house_names.txt": "# At most 1 names have two homes.\ntaken one two: of both.\n",
+}
+RENAMED = {
+    "crates/one/specs/Parts.antt": """-- What is taken.
+use Rattle.std.specs.Prelude.{◌≡◌, ℕ}
+
+-- taken as it is
+abbrev pub part_taken : ℕ → ℕ
+part_taken n = n
+
+pub record IsPart (n : ℕ) : Type 0 where
+  pub is : part_taken n ≡ n
+""",
+    "crates/one/src/lib.rt": """ghost use Rattle.one.specs.Parts.{part_taken, IsPart};
+
+/// What is taken.
+pub fn taken_of(n: u32) -> u32
+    ensures { IsPart (part_taken n) }
+{
+    n
+}
+""",
+    "crates/two/specs/Others.antt": TREE["crates/two/specs/Others.antt"],
+    "crates/two/specs/Uses.antt": """use Rattle.std.specs.Prelude.{ℕ}
+use Rattle.one.specs.Parts.{part_taken}
+use Rattle.two.specs.Others.{taken as given}
+
+abbrev pub twice : ℕ → ℕ
+twice n = part_taken (part_taken n) + given n
+""",
+    "tools/wrong_bodies/one.edits": """# one/takes-more
+file: specs/Parts.antt
+old: part_taken n = n
+new: part_taken n = n + 1
+""",
+    "tools/house_names.txt": "# At most 0 names have two homes.\n",
+}
 
 class Reading(Folder):
     """The reading of a folder."""
@@ -227,6 +302,47 @@ class Documents(unittest.TestCase):
         for names, there in zip(named, (of_gate, by_hand)):
             self.assertTrue(names)
             self.assertEqual([name for name in names if name not in there], [])
+
+
+class Renames(Folder):
+    """tools/rename, over a small tree."""
+
+    def setUp(self) -> None:
+        """Writes the tree."""
+        super().setUp()
+        for name, content in TREE.items():
+            (self.folder / name).parent.mkdir(parents=True, exist_ok=True)
+            self.write(name, content.encode())
+
+    def rename(self, *words: str) -> tuple[int, str]:
+        """The status of tools/rename in the tree, and the last line that it prints."""
+        tool = [str(TOP / "tools" / "rename"), *words]
+        done = subprocess.run(tool, capture_output=True, text=True, cwd=self.folder, check=False)
+        return done.returncode, done.stdout.splitlines()[-1]
+
+    def texts(self) -> dict[str, str]:
+        """The tree as it is."""
+        return {name: (self.folder / name).read_text(encoding="utf-8") for name in TREE}
+
+    def test_one(self) -> None:
+        """A name changes at its home, in imports, terms, clauses, edits and the list of names, and nowhere else."""
+        self.assertEqual(self.rename("one", "taken", "part_taken"), (0, "1 renamed, 0 refused"))
+        self.assertEqual(self.texts(), RENAMED)
+
+    def test_refused(self) -> None:
+        """A name without a home, and a new name that is there already, are refused, and nothing changes."""
+        for words in (("one", "lost", "found"), ("one", "taken", "IsPart"), ("one", "taken", "twice")):
+            with self.subTest(" ".join(words)):
+                self.assertEqual(self.rename(*words), (1, "0 renamed, 1 refused"))
+                self.assertEqual(self.texts(), TREE)
+
+    def test_table(self) -> None:
+        """A table is done as a whole, or with --skip as far as it can be."""
+        table = str(self.write("table", "# two rows\none taken part_taken\none lost found  # of none\n"))
+        self.assertEqual(self.rename("--table", table), (1, "0 renamed, 1 refused"))
+        self.assertEqual(self.texts(), TREE)
+        self.assertEqual(self.rename("--table", table, "--skip"), (0, "1 renamed, 1 refused"))
+        self.assertEqual(self.texts(), RENAMED)
 
 
 if __name__ == "__main__":
