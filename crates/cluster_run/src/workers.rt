@@ -48,11 +48,18 @@ impl Sending {
 }
 
 impl Worker for Sending {
+    ghost use Rattle.io_edges.specs.Gates.{LetsWorker};
     ghost use Rattle.cluster_run.specs.Workers.{SendingKey};
 
     ghost Key = { SendingKey };
 
     ghost key = { λ w. w.key };
+
+    ghost Lets = { λ lets key. LetsWorker lets key.worker };
+
+    fn pass<G: TurnGate>(&mut self, gate: &G, turns: u32) -> u32 {
+        Sending::pass(self, gate, turns)
+    }
 }
 
 impl Giver for Sending {
@@ -135,11 +142,18 @@ impl Moving {
 }
 
 impl Worker for Moving {
+    ghost use Rattle.io_edges.specs.Gates.{LetsWorker};
     ghost use Rattle.cluster_run.specs.Workers.{WorkerKey};
 
     ghost Key = { WorkerKey };
 
     ghost key = { λ w. w.key };
+
+    ghost Lets = { λ lets key. LetsWorker lets key.worker };
+
+    fn pass<G: TurnGate>(&mut self, gate: &G, turns: u32) -> u32 {
+        Moving::pass(self, gate, turns)
+    }
 }
 
 impl Model for Moving {
@@ -236,11 +250,18 @@ impl Receiving {
 }
 
 impl Worker for Receiving {
+    ghost use Rattle.io_edges.specs.Gates.{LetsWorker};
     ghost use Rattle.cluster_run.specs.Workers.{WorkerKey};
 
     ghost Key = { WorkerKey };
 
     ghost key = { λ w. w.key };
+
+    ghost Lets = { λ lets key. LetsWorker lets key.worker };
+
+    fn pass<G: TurnGate>(&mut self, gate: &G, turns: u32) -> u32 {
+        Receiving::pass(self, gate, turns)
+    }
 }
 
 impl Taker for Receiving {
@@ -313,11 +334,19 @@ impl Cutting {
 }
 
 impl Worker for Cutting {
+    ghost use Rattle.io_edges.specs.Gates.{LetsWorker};
     ghost use Rattle.cluster_run.specs.Workers.{WorkerKey};
 
     ghost Key = { WorkerKey };
 
     ghost key = { λ w. w.key };
+
+    ghost Lets = { λ lets key. LetsWorker lets key.worker };
+
+    fn pass<G: TurnGate>(&mut self, gate: &G, turns: u32) -> u32 {
+        Cutting::pass(self, gate);
+        turns.min(1)
+    }
 }
 
 impl Model for Cutting {

@@ -17,6 +17,7 @@ mod progress;
 mod receiving;
 mod rounds;
 mod sending;
+mod team;
 mod turn_gate;
 pub mod workers;
 
@@ -25,6 +26,7 @@ pub use cut::cut_pass;
 pub use idling::IDLE_TURNS;
 pub use moving::move_pass;
 pub use receiving::recv_pass;
-pub use rounds::{Way, round};
+pub use rounds::Way;
 pub use sending::send_pass;
+pub use team::Team;
 pub use turn_gate::TurnGate;

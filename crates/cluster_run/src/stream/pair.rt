@@ -58,11 +58,17 @@ impl PairMoving {
 }
 
 impl Worker for PairMoving {
-    ghost use Rattle.cluster_run.specs.stream.Workers.{PairKey};
+    ghost use Rattle.cluster_run.specs.stream.Workers.{LetsBoth, PairKey};
 
     ghost Key = { PairKey };
 
     ghost key = { λ w. w.key };
+
+    ghost Lets = { λ lets key. LetsBoth lets key.workers };
+
+    fn pass<G: TurnGate>(&mut self, gate: &G, turns: u32) -> u32 {
+        PairMoving::pass(self, gate, turns)
+    }
 }
 
 impl Model for PairMoving {
@@ -121,11 +127,18 @@ impl PairCutting {
 }
 
 impl Worker for PairCutting {
-    ghost use Rattle.cluster_run.specs.stream.Workers.{PairKey};
+    ghost use Rattle.cluster_run.specs.stream.Workers.{LetsBoth, PairKey};
 
     ghost Key = { PairKey };
 
     ghost key = { λ w. w.key };
+
+    ghost Lets = { λ lets key. LetsBoth lets key.workers };
+
+    fn pass<G: TurnGate>(&mut self, gate: &G, turns: u32) -> u32 {
+        PairCutting::pass(self, gate);
+        turns.min(1)
+    }
 }
 
 impl Model for PairCutting {

@@ -181,11 +181,17 @@ impl Sink {
 }
 
 impl Worker for Sink {
-    ghost use Rattle.cluster_run.specs.stream.Workers.{SinkKey};
+    ghost use Rattle.cluster_run.specs.stream.Workers.{LetsBoth, SinkKey};
 
     ghost Key = { SinkKey };
 
     ghost key = { λ w. w.key };
+
+    ghost Lets = { λ lets key. LetsBoth lets key.workers };
+
+    fn pass<G: TurnGate>(&mut self, gate: &G, turns: u32) -> u32 {
+        Sink::pass(self, gate, turns)
+    }
 }
 
 impl Taker for Sink {

@@ -135,13 +135,19 @@ impl Source {
 }
 
 impl Worker for Source {
-    ghost use Rattle.cluster_run.specs.stream.Workers.{SourceKey};
+    ghost use Rattle.cluster_run.specs.stream.Workers.{LetsBoth, SourceKey};
 
     ghost Key = { SourceKey };
 
     ghost key = { λ w. w.key };
 
     ghost reach = { λ w. w.ever };
+
+    ghost Lets = { λ lets key. LetsBoth lets key.workers };
+
+    fn pass<G: TurnGate>(&mut self, gate: &G, turns: u32) -> u32 {
+        Source::pass(self, gate, turns)
+    }
 }
 
 impl Giver for Source {
