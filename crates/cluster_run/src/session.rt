@@ -37,11 +37,11 @@ pub(crate) struct SessionEnd {
     pub(crate) rest: FrameList,
 }
 
-/// For so many frames more than a session has there is room to receive: a pass then makes as many turns at least.
+/// For this many frames more than a session has there is room to receive: a pass then makes as many turns at least.
 const SPARE_ROOM: usize = 1_024;
 
-// The frames of a list with room for so many in all. Where they are fewer than half of these, they are moved into a
-// list of their own length.
+// Returns the frames of a list with room for this many in all. If they are fewer than half of these, they are moved
+// into a list of their own length.
 fn trimmed(alloc: Global, mut list: FrameList, room: usize) -> Result<FrameList, AllocError>
     ensures { IfOk result (λ r. r.frames ≡ list.frames) }
 {
@@ -57,8 +57,8 @@ fn trimmed(alloc: Global, mut list: FrameList, room: usize) -> Result<FrameList,
 }
 
 impl Session {
-    /// A session of the lane with this number, in a ring of so many entries, that has these frames to send: each has a
-    /// byte. The only error is running out of memory.
+    /// Returns a session of the lane with this number, in a ring of this many entries, that has these frames to send:
+    /// each has a byte. Returns an error if memory runs out.
     pub(crate) fn new(
         alloc: Global,
         number: u32,
@@ -112,28 +112,28 @@ impl Session {
         self.team.round(rt, gate, way, aim);
     }
 
-    /// How many frames the session may accept.
+    /// Returns how many frames the session may accept.
     pub(crate) fn total(&self) -> usize
         ensures { result ≡ length self.now.frames }
     {
         self.total
     }
 
-    /// Whether all its frames were received.
+    /// Returns whether all its frames were received.
     pub(crate) fn is_whole(&self) -> bool
         ensures { result ≡ (length self.now.got == length self.now.frames) }
     {
         self.team.taker.count() == self.total
     }
 
-    /// Whether the link was cut.
+    /// Returns whether the link was cut.
     pub(crate) fn is_cut(&self) -> bool
         ensures { result ≡ self.now.cut }
     {
         self.team.cutter.is_cut()
     }
 
-    /// Ends the session. The only error is running out of memory.
+    /// Ends the session. Returns an error if memory runs out.
     pub(crate) fn ended(self, alloc: Global) -> Result<SessionEnd, AllocError>
         ensures { IfOk result (λ end. EndsWith self end.run end.proof end.rest) }
     {

@@ -10,10 +10,10 @@ use crate::workers::{Giver, Taker, Worker};
 use io_edges::Gate;
 use std::thread::{Threads, join_mut};
 
-/// At most so many passes a worker makes in a round.
+/// The most passes that a worker makes in a round.
 const PASSES: u32 = 16_777_216;
 
-/// So many turns has a pass of the mover, at most.
+/// The most turns of a pass of the mover.
 const MOVER_TURNS: u32 = 4_096;
 
 // The giver's part of a round. It leaves once nothing is left to give, or where it gave nothing for a while.
@@ -104,7 +104,7 @@ fn take_in_thread<T: Taker, G: Gate>(taker: &mut T, gate: &G, progress: &Progres
     }
 }
 
-// The cutting worker's part: the link is cut once so many frames were taken, or after a while.
+// The cutting worker's part: the link is cut once this many frames were taken, or after a while.
 fn cut_in_thread<C: Worker, G: Gate>(
     cutter: &mut C,
     gate: &G,
@@ -119,8 +119,8 @@ fn cut_in_thread<C: Worker, G: Gate>(
     progress.end();
 }
 
-// The three workers that carry frames. Where no thread can be made the giver makes its passes first, then the mover,
-// then the taker.
+// The three workers that carry frames. If no thread can be made the giver makes its passes first, then the mover, then
+// the taker.
 fn carry_in_threads<R: Threads + Sync, G: Gate, S: Giver, M: Worker, T: Taker>(
     rt: &R,
     gate: &G,
@@ -160,8 +160,8 @@ fn carry_in_threads<R: Threads + Sync, G: Gate, S: Giver, M: Worker, T: Taker>(
 }
 
 impl<S: Giver, M: Worker, T: Taker, C: Worker> Team<S, M, T, C> {
-    /// A round in which each worker has a thread of its own. It is over once all frames of the aim were taken, where no
-    /// worker gets on for a while, or after the cut. Where the aim has a cut, the link is cut once so many frames were
+    /// A round in which each worker has a thread of its own. It is over once all frames of the aim were taken, if no
+    /// worker gets on for a while, or after the cut. If the aim has a cut, the link is cut once this many frames were
     /// taken, or after a while.
     pub(crate) fn round_in_threads<R: Threads + Sync, G: Gate>(
         &mut self,

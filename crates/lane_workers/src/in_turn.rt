@@ -11,7 +11,7 @@ use crate::workers::{Giver, Taker, Worker};
 const TIMES: u32 = 1_024;
 
 impl<S: Giver, M: Worker, T: Taker, C: Worker> Team<S, M, T, C> {
-    // One pass of each worker, where the link is cut after the giver's. A part of what was given is moved then.
+    // One pass of each worker, if the link is cut after the giver's. A part of what was given is moved then.
     fn cut_in_turn<G: TurnGate>(&mut self, gate: &G, turns: u32)
         requires turns { 1 ≤ turns }
         requires gate { ⟦<Self as Worker>⟧.Lets (G.lets gate.now) (⟦<Self as Worker>⟧.key self.old) }
@@ -24,9 +24,9 @@ impl<S: Giver, M: Worker, T: Taker, C: Worker> Team<S, M, T, C> {
         self.taker.pass(gate, turns);
     }
 
-    /// A round in which one thread makes the passes of all workers in turn. Where the aim has a cut, the link is cut
-    /// once so many frames were taken, and then the round is over. Where it has none, the round is over once all frames
-    /// were taken. In any case it is over once the workers made their passes `TIMES` times.
+    /// A round in which one thread makes the passes of all workers in turn. If the aim has a cut, the link is cut once
+    /// this many frames were taken, and then the round is over. If it has none, the round is over once all frames were
+    /// taken. In any case it is over once the workers made their passes `TIMES` times.
     pub(crate) fn round_in_turn<G: TurnGate>(&mut self, gate: &G, aim: Aim)
         requires gate { ⟦<Self as Worker>⟧.Lets (G.lets gate.now) (⟦<Self as Worker>⟧.key self.old) }
         ensures key { ⟦<Self as Worker>⟧.key self.new ≡ ⟦<Self as Worker>⟧.key self.old }

@@ -1,9 +1,8 @@
 //! The passes of a lane's workers: each makes turns of one end, or of the mover and the way back together.
 //!
-//! A pass makes at least one turn and at most as many as it is given, and answers how many. Before each turn it passes
-//! a [`TurnGate`]. It may end before its last turn: where nothing is left to do, or after [`IDLE_TURNS`]
-//! turns in a row that did nothing. Its caller can let other threads run then. It takes no memory and never waits for
-//! another worker.
+//! A pass makes at least one turn and at most as many as it is given, and returns how many. Before each turn it passes
+//! a [`TurnGate`]. It may end before its last turn: if nothing is left to do, or after [`IDLE_TURNS`] turns in a row
+//! that did nothing. Its caller can let other threads run then. It takes no memory and never waits for another worker.
 #![tactic(auto)]
 
 mod aim;

@@ -19,7 +19,7 @@ pub enum Way {
 
 impl<S: Giver, M: Worker, T: Taker, C: Worker> Team<S, M, T, C> {
     /// Makes a round of a session: the four workers make their passes, until as many frames were taken as the aim says
-    /// or no worker gets on. If the aim has a cut, the link is cut once so many frames were taken, or after a while.
+    /// or no worker gets on. If the aim has a cut, the link is cut once this many frames were taken, or after a while.
     ///
     /// The gate has to let each worker pass (`Lets`). Each worker has its key after the round, and the giver came no
     /// less far. If no thread can be made, the caller makes all passes.

@@ -19,8 +19,8 @@ pub trait Worker: Send {
     /// What has to be let of a worker with this key: which workers pass before which turns, both by their numbers.
     ghost Lets: { (ℕ → ℕ → Type 0) → Key → Type 0 };
 
-    /// Makes a pass of at most so many turns, at least 1, and answers how many of them it made. The gate has to let the
-    /// worker pass before each (`Lets`). The pass keeps the worker's key, and makes its reach no less.
+    /// Makes a pass of at most this many turns, at least 1, and returns how many of them it made. The gate has to let
+    /// the worker pass before each (`Lets`). The pass keeps the worker's key, and makes its reach no less.
     fn pass<G: TurnGate>(&mut self, gate: &G, turns: u32) -> u32
         requires some { 1 ≤ turns }
         requires gate { Lets (G.lets gate.now) (key self.old) }
@@ -30,12 +30,12 @@ pub trait Worker: Send {
 
 /// The worker that gives frames to a lane.
 pub trait Giver: Worker {
-    /// How many frames are left to give, at most. Where none is left, this answers 0 in the end.
+    /// Returns how many frames are left to give, at most. If none is left, this answers 0 in the end.
     fn left(&self) -> usize;
 }
 
 /// The worker that takes what comes of them.
 pub trait Taker: Worker {
-    /// How many frames it took in all.
+    /// Returns how many frames it took in all.
     fn taken(&self) -> usize;
 }

@@ -33,11 +33,11 @@ pub record LanesEnd (source : SourceEnd) (sink : SinkEnd) (cut : Bool) (item_pro
   pub items_order : source.send.part.sent ≡ sink.recv.part.got ++ left
   pub acks_order : sink.send.part.sent ≡ source.recv.part.got ++ acks_left
 
--- what a proof shows, where another word says whether the link was cut
+-- what a proof shows, if another word says whether the link was cut
 pub shown_with : {sent got : List (List ℕ)} {entries : ℕ} {cut cut' : Bool} {proof : Shown} → proof ≡ record { sent = sent; got = got; entries = entries; cut = cut } → cut ≡ cut' → proof ≡ record { sent = sent; got = got; entries = entries; cut = cut' }
 shown_with {sent = sent} {got = got} {entries = entries} shown same = shown ∙ ap (λ (cut : Bool). record { sent = sent; got = got; entries = entries; cut = cut }) same
 
--- Where source and sink leave their ends and both lanes end, the session ends with these ends and both proofs.
+-- If source and sink leave their ends and both lanes end, the session ends with these ends and both proofs.
 pub ends_with : (s : Inside) (session : StreamSessionState) (source : SourceEnd) (sink : SinkEnd) (item_proof ack_proof : Shown) (left acks_left : List (List ℕ)) → IsStreamSession s → stream_session_of s ≡ session
     → LeavesSource s.team.giver source → LeavesSink s.team.taker sink → LanesEnd source sink s.team.cutter.cut item_proof ack_proof left acks_left
     → StreamEndsWith session (record { sender = source.sender; receiver = sink.receiver; acks = source.acks; item_proof = item_proof; ack_proof = ack_proof })

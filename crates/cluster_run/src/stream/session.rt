@@ -46,8 +46,8 @@ pub(crate) struct SessionEnd {
 // The ends of a lane.
 type LaneEnds = (SendEnd, MoveEnd, RecvEnd, BackEnd, CutEnd);
 
-// What a session takes memory for: a list with room for its acknowledgements, and two lanes. The only error is running
-// out of memory.
+// Returns what a session takes memory for: a list with room for its acknowledgements, and two lanes. Returns an error
+// if memory runs out.
 fn new_lanes(alloc: Global, entries: u32) -> Result<(FrameList, LaneEnds, LaneEnds), AllocError>
     requires { (2 ≤ entries) × (entries ≤ most_traffic_entries) }
     ensures got { IfOk result (λ made. (made.0.frames ≡ []) × (made.0.spare ≡ ACK_ROOM)) }
@@ -61,8 +61,8 @@ fn new_lanes(alloc: Global, entries: u32) -> Result<(FrameList, LaneEnds, LaneEn
 }
 
 impl Session {
-    /// A session of a stream in rings of so many entries: its lanes have these numbers. The only error is out of
-    /// memory.
+    /// Returns a session of a stream in rings of this many entries: its lanes have these numbers. Returns an error if
+    /// memory runs out.
     pub(crate) fn new(
         alloc: Global,
         numbers: LaneNumbers,
@@ -123,38 +123,38 @@ impl Session {
         self.team.round(rt, gate, way, aim);
     }
 
-    /// How many items the stream has.
+    /// Returns how many items the stream has.
     pub(crate) fn total(&self) -> usize
         ensures { result ≡ length self.now.key.items }
     {
         self.total
     }
 
-    /// How many items were kept as the session began.
+    /// Returns how many items were kept as the session began.
     pub(crate) fn begun(&self) -> usize {
         self.team.taker.begun
     }
 
-    /// How many items are kept.
+    /// Returns how many items are kept.
     pub(crate) fn kept(&self) -> usize
         ensures { result ≡ self.now.kept }
     {
         self.team.taker.kept()
     }
 
-    /// Whether the link was cut.
+    /// Returns whether the link was cut.
     pub(crate) fn is_cut(&self) -> bool
         ensures { result ≡ self.now.cut }
     {
         self.team.cutter.is_cut()
     }
 
-    /// Whether there was no memory for a frame: the session can't end then.
+    /// Returns whether there was no memory for a frame: the session can't end then.
     pub(crate) fn is_wanting(&self) -> bool {
         self.team.giver.is_wanting || self.team.taker.is_wanting
     }
 
-    /// Ends the session. The only error is running out of memory, which a worker may have met before.
+    /// Ends the session. Returns an error if memory runs out, which a worker may have met before.
     pub(crate) fn ended(self) -> Result<SessionEnd, AllocError>
         ensures { IfOk result (λ end. StreamEndsWith self end) }
     {
@@ -166,7 +166,7 @@ impl Session {
         self.into_end()
     }
 
-    // What the session leaves. The only error is running out of memory, which its sink may have met before.
+    // Returns what the session leaves. Returns an error if memory runs out, which its sink may have met before.
     fn into_end(self) -> Result<SessionEnd, AllocError>
         ensures { IfOk result (λ end. StreamEndsWith self end) }
     {
