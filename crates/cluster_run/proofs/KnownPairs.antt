@@ -18,7 +18,7 @@ from_known : (pair pairs : ℕ) (from : Side) → pair < pairs → All (λ (lane
 from_known pair pairs from known =
     All-map (λ (lane : LaneName). lane.pair < pairs) (λ queue. record { pair = pair; from = from; queue = queue }) (range_with_len 0 most_queues) (λ k d below. known)
 
--- the lanes of so many pairs, from a pair on
+-- the lanes of this many pairs, from a pair on
 lanes_known : (first count pairs : ℕ) → first + count ≤ pairs → All (λ (lane : LaneName). lane.pair < pairs) (flat_map lanes_of (range_with_len first count))
 lanes_known first zero pairs few = All-nil (λ (lane : LaneName). lane.pair < pairs)
 lanes_known first (suc count) pairs few =

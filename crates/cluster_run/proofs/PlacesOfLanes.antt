@@ -122,6 +122,6 @@ only_from pair from queue a (suc n) (suc k) few is within =
     let many = length-lanes_of a in
     only_in_second lane (32 * k + (side_place from + queue)) (32 * suc k + (side_place from + queue)) (lanes_of a) (flat_map lanes_of (range_with_len (a + 1) n)) (omega arith) (none_in_pair lane a (omega arith)) (only_from pair from queue (a + 1) n k few (omega arith) (omega arith))
 
--- Among all lanes of so many pairs a lane stands at the place that its name gives, and nowhere else.
+-- Among all lanes of this many pairs a lane stands at the place that its name gives, and nowhere else.
 pub only_at_place : (lane : LaneName) (pairs : ℕ) → lane.queue < 16 → lane.pair < pairs → IsOnlyAt (lane_place_of lane) lane (lanes_in pairs)
 only_at_place lane pairs few among = only_from lane.pair lane.from lane.queue 0 pairs lane.pair few (omega arith) among

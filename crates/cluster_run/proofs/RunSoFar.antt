@@ -10,7 +10,7 @@ use Rattle.cluster_run.specs.LaneKeys.{LaneKey, key_of, keys_from, ComeTo}
 abbrev pub all_keys : Plan → List LaneKey
 all_keys plan = keys_from plan 0 (traffic_lanes plan)
 
--- Records that come to the keys of these lanes are named as they are, where one that comes to a key has the key's name.
+-- Records that come to the keys of these lanes are named as they are, if one that comes to a key has the key's name.
 pub names_of : {L : Type 0} (Comes : LaneKey → L → List Shown → Type 0) (name_of : L → LaneName) → ((key : LaneKey) (lane : L) (proofs : List Shown) → Comes key lane proofs → name_of lane ≡ key.name)
     → (plan : Plan) (number : ℕ) (names : List LaneName) (run : List L) (proofs : List Shown) → ComeTo Comes (keys_from plan number names) run proofs → map name_of run ≡ names
 names_of Comes name_of named plan number [] [] proofs come = refl
@@ -33,7 +33,7 @@ pub group_over : {L : Type 0} (Comes : LaneKey → L → List Shown → Type 0) 
 group_over Comes plan first before group after old new proofs all come parts adds =
     record { keys = come.keys ++ group; all = append_assoc come.keys group after ∙ (ap (λ rest. come.keys ++ rest) parts ∙ come.all); come = adds come.keys come.come }
 
--- Where no lane waits any more, the records come to the keys of all lanes with traffic.
+-- If no lane waits any more, the records come to the keys of all lanes with traffic.
 pub all_over : {L : Type 0} (Comes : LaneKey → L → List Shown → Type 0) (plan : Plan) {waiting : List LaneKey} {run : List L} {proofs : List Shown} → waiting ≡ [] → HasCome Comes plan waiting run proofs → ComeTo Comes (all_keys plan) run proofs
 all_over Comes plan {run = run} {proofs = proofs} none come =
     let all = ap (λ waiting. come.keys ++ waiting) none in

@@ -137,7 +137,7 @@ keys_with-append plan (lane ∷ lanes) more number =
     let there : number + 1 + length rest ≡ number + suc (length rest) = omega arith in
     ap (λ (keys : List LaneKey). key_with plan number lane ∷ keys) (keys_with-append plan lanes more (number + 1) ∙ ap (λ (n : ℕ). rest ++ keys_with plan n more) there)
 
--- Where the lanes that wait are those of a list that have a frame, numbered from 0, they still are with one lane more.
+-- If the lanes that wait are those of a list that have a frame, numbered from 0, they still are with one lane more.
 pub waiting_more : (plan : Plan) (lanes : List LaneTraffic) (lane : LaneTraffic) (old new : List LaneKey) → old ≡ keys_with_frames plan 0 (map lane_frames lanes)
     → new ≡ old ++ keys_with_frames plan (length old) (lane_frames lane ∷ []) → new ≡ keys_with_frames plan 0 (map lane_frames (lanes ++ lane ∷ []))
 waiting_more plan lanes lane old new old_is new_is =

@@ -25,7 +25,7 @@ lane_frames lane = record { name = lane.name; frames = lane.frames.frames }
 abbrev pub lane_frames_of : List Traffic → LaneName → LaneFrames
 lane_frames_of traffic lane = record { name = lane; frames = frames_on lane traffic }
 
--- all lanes of so many pairs, each with its frames
+-- all lanes of this many pairs, each with its frames
 abbrev pub by_lane : List Traffic → ℕ → List LaneFrames
 by_lane traffic pairs = map (lane_frames_of traffic) (lanes_in pairs)
 
@@ -49,7 +49,7 @@ abbrev pub lanes_with : List LaneFrames → Traffic → List LaneFrames
 lanes_with lanes (Send lane frame) = slice_set lanes (lane_place_of lane) (lane_with_frame (slice_index_or lanes (lane_place_of lane) no_lane) frame)
 lanes_with lanes (Break pair) = lanes
 
--- an item is of one of so many lanes
+-- an item is of one of this many lanes
 abbrev pub HasLanePlace : ℕ → Traffic → Type 0
 HasLanePlace lanes (Send lane frame) = lane_place_of lane < lanes
 HasLanePlace lanes (Break pair) = Unit {0}

@@ -35,7 +35,7 @@ lanes_of pair =
     map (λ queue. record { pair = pair; from = A; queue = queue }) (range_with_len 0 most_queues)
     ++ map (λ queue. record { pair = pair; from = B; queue = queue }) (range_with_len 0 most_queues)
 
--- the lanes of so many pairs, pair by pair
+-- the lanes of this many pairs, pair by pair
 abbrev pub lanes_in : ℕ → List LaneName
 lanes_in pairs = flat_map lanes_of (range_with_len 0 pairs)
 

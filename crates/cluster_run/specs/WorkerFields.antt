@@ -38,7 +38,7 @@ receiving_of w = record {
   loads = w.end.part.loads;
 }
 
--- what was received stands in the list, which has room for so many frames in all
+-- what was received stands in the list, which has room for this many frames in all
 pub record IsReceiving (w : receiving.Inside) : Type 0 where
   pub received : w.got.frames ≡ w.end.part.got
   pub room : w.got.spare + length w.got.frames ≡ w.room

@@ -9,7 +9,7 @@ use std::alloc::{AllocError, Global};
 use step_kinds::limits::MOST_QUEUES;
 use step_kinds::{Frame, FrameList, LaneName, Plan, Side, Traffic};
 
-/// So many lanes a pair may have: one for each queue of each side.
+/// The lanes that a pair may have: one for each queue of each side.
 const LANES: usize = 2 * MOST_QUEUES as usize;
 
 /// A lane and frames that are to be sent on it.
@@ -62,7 +62,7 @@ fn push_side(
     Ok(())
 }
 
-// All lanes of so many pairs, without frames.
+// Returns all lanes of this many pairs, without frames.
 fn all_lanes(alloc: Global, pairs: usize) -> Result<Vec<LaneTraffic>, AllocError>
     requires { pairs ≤ 16 }
     ensures { IfOk result (λ lanes. map lane_frames lanes.items ≡ by_lane [] pairs) }
@@ -87,7 +87,7 @@ fn put(alloc: Global, lanes: &mut [LaneTraffic], item: &Traffic) -> Result<(), A
 }
 
 /// All lanes that the plan's pairs may have, each with copies of its frames, in order. The traffic is gone through
-/// once. The only error is running out of memory.
+/// once. Returns an error if memory runs out.
 pub(crate) fn traffic_by_lane(alloc: Global, plan: &Plan) -> Result<Vec<LaneTraffic>, AllocError>
     requires { CanRun plan.now }
     ensures { IfOk result (λ lanes. map lane_frames lanes.items ≡ by_lane plan.now.traffic (length plan.now.pairs)) }

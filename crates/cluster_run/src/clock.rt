@@ -10,22 +10,22 @@ pub struct Clock {
 }
 
 impl Clock {
-    /// The clock of a worker with this number, in a new session.
+    /// Returns the clock of a worker with this number, in a new session.
     pub fn new(worker: u32) -> Clock
         ensures { result ≡ record { worker = worker; turn = 0 } }
     {
         Clock { worker, turn: 0 }
     }
 
-    /// The number of the worker.
+    /// Returns the number of the worker.
     pub fn worker(&self) -> u32
         ensures { result ≡ self.now.worker }
     {
         self.worker
     }
 
-    /// The number of the next turn. Where so many turns from it on would pass the number 2^64 - 2, it is the largest
-    /// number from which they don't.
+    /// Returns the number of the next turn. If this many turns from it on would pass the number 2^64 - 2, it is the
+    /// largest number from which they don't.
     pub fn first(&self, turns: u32) -> u64
         ensures value { result ≡ min self.now.turn (2 ^ 64 - 1 - turns) }
         ensures fits { result + turns < 2 ^ 64 }
@@ -33,7 +33,7 @@ impl Clock {
         self.turn.min(u64::MAX - u64::from(turns))
     }
 
-    /// The clock after so many turns from turn `first` on. The number of its next turn is at most 2^64 - 1.
+    /// Returns the clock after this many turns from turn `first` on. The number of its next turn is at most 2^64 - 1.
     pub fn after(&self, first: u64, turns: u32) -> Clock
         ensures { result ≡ record { worker = self.now.worker; turn = min (first + turns) (2 ^ 64 - 1) } }
     {

@@ -16,11 +16,11 @@ use std::sync::Wait;
 use std::thread::Threads;
 use step_kinds::limits::MOST_TRAFFIC_ENTRIES;
 
-/// The rings that are open together have at most so many entries in all.
+/// The rings that are open together have at most this many entries in all.
 pub(crate) const MOST_OPEN: u32 = 1_000_000;
 
-/// Opens the lane `first` and those of the lanes that wait which may be open together with it, in order. The only error
-/// is running out of memory.
+/// Opens the lane `first` and those of the lanes that wait which may be open together with it, in order. Returns an
+/// error if memory runs out.
 pub(crate) fn next_group(
     alloc: Global,
     first: LaneTask,
@@ -40,8 +40,8 @@ pub(crate) fn next_group(
     Ok(works)
 }
 
-/// Rounds of the lanes of a group, until all are over. What their work comes to stays. The only error is running out of
-/// memory.
+/// Rounds of the lanes of a group, until all are over. What their work comes to stays. Returns an error if memory runs
+/// out.
 pub(crate) fn finished_group<R: Threads + Wait + Sync, G: Gate>(
     rt: &R,
     alloc: Global,

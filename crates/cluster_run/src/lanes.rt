@@ -36,7 +36,7 @@ pub(crate) struct LaneWork {
 impl LaneWork {
     ghost use Rattle.cluster_run.specs.LaneKeys.{LaneKey};
 
-    /// A lane in its first session. The only error is running out of memory.
+    /// Returns a lane in its first session. Returns an error if memory runs out.
     pub(crate) fn new(
         alloc: Global,
         name: LaneName,
@@ -62,7 +62,7 @@ impl LaneWork {
         })
     }
 
-    // With how many frames received the session is cut: its share of the frames, where a loss of the link is ahead.
+    // With how many frames received the session is cut: its share of the frames, if a loss of the link is ahead.
     fn cut_after(&self) -> Option<usize> {
         match self.ahead {
             0 => None,
@@ -82,7 +82,7 @@ impl LaneWork {
         self.session.pass(rt, gate, way, cut_after);
     }
 
-    /// Ends a lane that is over: its record, and the proofs of its sessions. The only error is running out of memory.
+    /// Ends a lane that is over: its record, and the proofs of its sessions. Returns an error if memory runs out.
     pub(crate) fn ended(self, alloc: Global) -> Result<(LaneRun, Vec<LaneProof>), AllocError>
         requires { self.over ≡ true }
         ensures { IfOk result (λ end. ComesTo self.key (lane_shown end.0) end.1.items) }

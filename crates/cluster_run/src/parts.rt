@@ -38,7 +38,7 @@ impl RunParts {
         self.proofs.append(&mut proofs)
     }
 
-    /// Adds lanes that are over after the others, in order. The only error is running out of memory.
+    /// Adds lanes that are over after the others, in order. Returns an error if memory runs out.
     pub(crate) fn add_all(&mut self, alloc: Global, works: Vec<LaneWork>) -> Result<(), AllocError>
         requires { All (λ work. work.over ≡ true) works.items }
         ensures { OnOk result ((keys : List LaneKey) → ComeTo ComesTo keys (map lane_shown self.old.lanes.items) self.old.proofs.items → ComeTo ComesTo (keys ++ keys_of works.items) (map lane_shown self.new.lanes.items) self.new.proofs.items) }

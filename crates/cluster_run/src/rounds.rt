@@ -16,32 +16,32 @@ pub trait RoundWork: Send + Drop {
     /// Whether its last session is whole.
     ghost over: { Self → Bool };
 
-    /// Whether its last session is whole.
+    /// Returns whether its last session is whole.
     fn is_over(&self) -> bool
         ensures { result ≡ over self.now };
 
-    /// Whether its session was cut.
+    /// Returns whether its session was cut.
     fn is_cut(&self) -> bool;
 
-    /// Whether a session lacked memory.
+    /// Returns whether a session lacked memory.
     fn is_wanting(&self) -> bool;
 
-    /// Where its session was cut and is not the last, ends it and begins the next one.
+    /// If its session was cut and is not the last, ends it and begins the next one.
     ///
     /// # Errors
     ///
-    /// [`AllocError`] only when out of memory.
+    /// [`AllocError`] if memory runs out.
     fn renewed(self, alloc: Global) -> Result<Self, AllocError>
         ensures { IfOk result (λ work. key work ≡ key self) };
 }
 
-/// So many lanes have threads for their workers. Of more lanes a thread makes the passes of several in turn.
+/// The most lanes whose workers have threads. Of more lanes a thread makes the passes of several in turn.
 const FEW_LANES: usize = 4;
 
-/// So many threads carry lanes where the number of processors isn't known.
+/// The threads that carry lanes if the number of processors isn't known.
 const SOME_THREADS: usize = 4;
 
-// How many threads carry lanes: as many as there are processors.
+// Returns how many threads carry lanes: as many as there are processors.
 fn thread_count<R: Threads>(rt: &R) -> usize
     ensures { 1 ≤ result }
 {
@@ -51,7 +51,7 @@ fn thread_count<R: Threads>(rt: &R) -> usize
     }
 }
 
-// A round of works. The workers of few have threads; of more each of so many threads makes the passes of several in
+// A round of works. The workers of few have threads; of more each of this many threads makes the passes of several in
 // turn.
 fn round<W, R, F, I>(rt: &R, threads: usize, works: &mut [W], in_threads: &F, in_turn: &I)
 where
@@ -71,15 +71,14 @@ where
     }
 }
 
-// Whether all works are over.
+// Returns whether all works are over.
 fn are_over<W: RoundWork>(works: &[W]) -> bool
     ensures { IsTrue result → All (λ work. W.over work ≡ true) works.now }
 {
     works.iter().all(|work| work.is_over())
 }
 
-// Begins the next session of each work whose session was cut. The only error is running out of memory, also in a
-// session.
+// Begins the next session of each work whose session was cut. Returns an error if memory runs out, also in a session.
 fn renewed<W: RoundWork>(alloc: Global, works: Vec<W>) -> Result<Vec<W>, AllocError>
     ensures { IfOk result (λ next. map W.key next.items ≡ map W.key works.items) }
 {
@@ -105,7 +104,7 @@ fn renewed<W: RoundWork>(alloc: Global, works: Vec<W>) -> Result<Vec<W>, AllocEr
 ///
 /// # Errors
 ///
-/// [`AllocError`] only when out of memory.
+/// [`AllocError`] if memory runs out.
 pub fn finished<W, R, F, I>(
     rt: &R,
     alloc: Global,

@@ -16,7 +16,7 @@ use std::thread::Threads;
 use step_kinds::{Items, Plan, RunRecord};
 use table_lane::LaneProof;
 
-/// Sends the traffic of a plan by threads, and answers the record of the run with a proof of each session. The proofs
+/// Sends the traffic of a plan by threads, and returns the record of the run with a proof of each session. The proofs
 /// stand in the order of the lanes, and then of the sessions.
 ///
 /// The plan's pairs and traffic have to be as a script can declare them, within the limits of traffic. Each lane with
@@ -34,7 +34,7 @@ use table_lane::LaneProof;
 ///
 /// # Errors
 ///
-/// [`AllocError`] only when out of memory.
+/// [`AllocError`] if memory runs out.
 pub fn run_plan<R: Threads + Wait + Sync, G: Gate>(
     rt: &R,
     alloc: Global,

@@ -11,7 +11,7 @@ ghost use Rattle.cluster_run.specs.Lanes.{most_lanes};
 use crate::clock::Clock;
 use crate::workers::{Cutting, Moving, Receiving, Sending, room_for};
 use io_edges::Gate;
-use lane_workers::{Aim, Way, round};
+use lane_workers::{Aim, Team, Way};
 use std::alloc::{AllocError, Global};
 use std::marker::Model;
 use std::thread::Threads;
@@ -21,10 +21,7 @@ use table_lane::{LaneEnd, LaneProof, finish, make};
 /// A session of a lane: its four workers, at one table.
 #[derive(Drop)]
 pub(crate) struct Session {
-    sending: Sending,
-    moving: Moving,
-    receiving: Receiving,
-    cutting: Cutting,
+    team: Team<Sending, Moving, Receiving, Cutting>,
     entries: u32,
     total: usize,
 }
@@ -40,11 +37,11 @@ pub(crate) struct SessionEnd {
     pub(crate) rest: FrameList,
 }
 
-/// For so many frames more than a session has there is room to receive: a pass then makes as many turns at least.
+/// For this many frames more than a session has there is room to receive: a pass then makes as many turns at least.
 const SPARE_ROOM: usize = 1_024;
 
-// The frames of a list with room for so many in all. Where they are fewer than half of these, they are moved into a
-// list of their own length.
+// Returns the frames of a list with room for this many in all. If they are fewer than half of these, they are moved
+// into a list of their own length.
 fn trimmed(alloc: Global, mut list: FrameList, room: usize) -> Result<FrameList, AllocError>
     ensures { IfOk result (λ r. r.frames ≡ list.frames) }
 {
@@ -60,8 +57,8 @@ fn trimmed(alloc: Global, mut list: FrameList, room: usize) -> Result<FrameList,
 }
 
 impl Session {
-    /// A session of the lane with this number, in a ring of so many entries, that has these frames to send: each has a
-    /// byte. The only error is running out of memory.
+    /// Returns a session of the lane with this number, in a ring of this many entries, that has these frames to send:
+    /// each has a byte. Returns an error if memory runs out.
     pub(crate) fn new(
         alloc: Global,
         number: u32,
@@ -79,103 +76,78 @@ impl Session {
         let got = room_for(alloc, room)?;
         let (send, mover, recv, back, cut) = make(alloc, entries)?;
         let first = 4 * number;
-        Ok(Session {
-            sending: Sending {
+        let team = Team {
+            giver: Sending {
                 end: send,
                 todo,
                 clock: Clock::new(first),
                 apart: [0; 16],
             },
-            moving: Moving::new(mover, back, first + 1),
-            receiving: Receiving::new(recv, got, room, first + 2),
-            cutting: Cutting::new(cut, first + 3),
+            mover: Moving::new(mover, back, first + 1),
+            taker: Receiving::new(recv, got, room, first + 2),
+            cutter: Cutting::new(cut, first + 3),
+        };
+        Ok(Session {
+            team,
             entries,
             total,
         })
     }
 
     /// A round of the session. Its workers make their passes in this way.
-    pub(crate) fn pass<R: Threads + Sync, G: Gate>(
-        &mut self,
-        rt: &R,
-        gate: &G,
-        way: Way,
-        cut_after: Option<usize>,
-    )
+    pub(crate) fn pass<R, G>(&mut self, rt: &R, gate: &G, way: Way, cut_after: Option<usize>)
+    where
+        R: Threads + Sync,
+        G: Gate,
         requires { LetsWorkers (G.lets gate.now) (self.old.worker + 4) }
         ensures worker { self.new.worker ≡ self.old.worker }
         ensures entries { self.new.entries ≡ self.old.entries }
         ensures frames { self.new.frames ≡ self.old.frames }
     {
-        let aim = self.aim(cut_after);
-        round(
-            rt,
-            way,
-            &mut self.sending,
-            &|turns, worker: &mut Sending|
-                requires { (1 ≤ turns) × LetsWorker (G.lets gate.now) worker.old.key.worker }
-            { worker.pass(gate, turns) },
-            &mut self.moving,
-            &|turns, worker: &mut Moving|
-                requires { (1 ≤ turns) × LetsWorker (G.lets gate.now) worker.old.key.worker }
-            { worker.pass(gate, turns) },
-            &mut self.receiving,
-            &|turns, worker: &mut Receiving|
-                requires { (1 ≤ turns) × LetsWorker (G.lets gate.now) worker.old.key.worker }
-            { worker.pass(gate, turns) },
-            &mut self.cutting,
-            &|turns, worker: &mut Cutting|
-                requires { (1 ≤ turns) × LetsWorker (G.lets gate.now) worker.old.key.worker }
-            {
-                worker.pass(gate);
-                turns.min(1)
-            },
-            aim,
-        );
-    }
-
-    // What a round is to come to.
-    fn aim(&self, cut_after: Option<usize>) -> Aim {
-        Aim {
+        let aim = Aim {
             total: self.total,
             cut_after,
             entries: self.entries,
-        }
+        };
+        self.team.round(rt, gate, way, aim);
     }
 
-    /// How many frames the session may accept.
+    /// Returns how many frames the session may accept.
     pub(crate) fn total(&self) -> usize
         ensures { result ≡ length self.now.frames }
     {
         self.total
     }
 
-    /// Whether all its frames were received.
+    /// Returns whether all its frames were received.
     pub(crate) fn is_whole(&self) -> bool
         ensures { result ≡ (length self.now.got == length self.now.frames) }
     {
-        self.receiving.count() == self.total
+        self.team.taker.count() == self.total
     }
 
-    /// Whether the link was cut.
+    /// Returns whether the link was cut.
     pub(crate) fn is_cut(&self) -> bool
         ensures { result ≡ self.now.cut }
     {
-        self.cutting.is_cut()
+        self.team.cutter.is_cut()
     }
 
-    /// Ends the session. The only error is running out of memory.
+    /// Ends the session. Returns an error if memory runs out.
     pub(crate) fn ended(self, alloc: Global) -> Result<SessionEnd, AllocError>
         ensures { IfOk result (λ end. EndsWith self end.run end.proof end.rest) }
     {
         let Session {
-            sending,
-            moving,
-            receiving,
-            cutting,
+            team,
             entries,
             total,
         } = self;
+        let Team {
+            giver: sending,
+            mover: moving,
+            taker: receiving,
+            cutter: cutting,
+        } = team;
         let Sending {
             end: send,
             todo,

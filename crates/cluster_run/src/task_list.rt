@@ -19,7 +19,7 @@ use std::collections::VecDeque;
 use step_kinds::{PairPlan, Plan};
 use traffic_plan::breaks;
 
-// How many losses of its link each pair has.
+// Returns how many losses of its link each pair has.
 fn losses_by_pair(alloc: Global, plan: &Plan) -> Result<Vec<u32>, AllocError>
     requires { CanRun plan.now }
     ensures { IfOk result (λ losses. losses.items ≡ losses_by_pair plan.now) }
@@ -31,7 +31,7 @@ fn losses_by_pair(alloc: Global, plan: &Plan) -> Result<Vec<u32>, AllocError>
     Ok(losses)
 }
 
-// A pair of the plan.
+// Returns a pair of the plan.
 fn pair_at(plan: &Plan, pair: u32) -> &PairPlan
     requires { pair < length plan.now.pairs }
     ensures { result.now ≡ pair_plan plan.now pair }
@@ -39,7 +39,7 @@ fn pair_at(plan: &Plan, pair: u32) -> &PairPlan
     &plan.pairs.as_slice()[pair as usize]
 }
 
-// The losses of a pair's link.
+// Returns the losses of a pair's link.
 fn losses_of(plan: &Plan, losses: &[u32], pair: u32) -> u32
     requires plan { CanRun plan.now }
     requires losses { losses.now ≡ losses_by_pair plan.now }
@@ -50,7 +50,7 @@ fn losses_of(plan: &Plan, losses: &[u32], pair: u32) -> u32
     losses[pair as usize]
 }
 
-// The lane with this number, which may have traffic.
+// Returns the lane with this number, which may have traffic.
 fn task_of(plan: &Plan, losses: &[u32], number: u32, lane: LaneTraffic) -> LaneTask
     requires plan { CanRun plan.now }
     requires losses { losses.now ≡ losses_by_pair plan.now }
@@ -70,7 +70,7 @@ fn task_of(plan: &Plan, losses: &[u32], number: u32, lane: LaneTraffic) -> LaneT
     }
 }
 
-// Adds a lane after those that wait, where it has a frame. Its number is how many waited.
+// Adds a lane after those that wait, if it has a frame. Its number is how many waited.
 fn push_task(
     plan: &Plan,
     losses: &[u32],
@@ -91,7 +91,7 @@ fn push_task(
     Ok(())
 }
 
-// The lanes of a plan that have a frame.
+// Returns the lanes of a plan that have a frame.
 fn waiting_lanes(
     alloc: Global,
     plan: &Plan,
@@ -110,9 +110,9 @@ fn waiting_lanes(
     Ok(tasks)
 }
 
-/// The lanes of a plan that have traffic, each with its frames. They stand by the number of the pair, then those from
-/// side A before those from side B, then by the queue, and are numbered from 0 in that order. The only error is running
-/// out of memory.
+/// Returns the lanes of a plan that have traffic, each with its frames. They stand by the number of the pair, then
+/// those from side A before those from side B, then by the queue, and are numbered from 0 in that order. Returns an
+/// error if memory runs out.
 ///
 /// The plan's pairs and traffic have to be as a script can declare them, within the limits of traffic.
 pub fn lanes_to_run(alloc: Global, plan: &Plan) -> Result<VecDeque<LaneTask>, AllocError>

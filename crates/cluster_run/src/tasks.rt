@@ -42,7 +42,7 @@ pub struct TaskParts {
 }
 
 impl LaneTask {
-    /// How many entries the ring of the lane has, at most 65,535.
+    /// Returns how many entries the ring of the lane has, at most 65,535.
     pub fn entries(&self) -> u32
         ensures value { result ≡ self.now.entries }
         ensures fits { result ≤ most_traffic_entries }
@@ -50,7 +50,7 @@ impl LaneTask {
         self.entries
     }
 
-    /// The parts of a lane that waits.
+    /// Returns the parts of a lane that waits.
     pub fn into_parts(self) -> TaskParts
         ensures { AreParts self result }
     {
@@ -70,7 +70,7 @@ impl LaneTask {
         }
     }
 
-    /// Opens the lane's ring for its first session. The only error is running out of memory.
+    /// Opens the lane's ring for its first session. Returns an error if memory runs out.
     pub(crate) fn opened(self, alloc: Global) -> Result<LaneWork, AllocError>
         ensures { IfOk result (λ work. work.key ≡ self) }
     {

@@ -26,9 +26,9 @@ pub(crate) struct Sending {
 }
 
 impl Sending {
-    /// Makes at least 1 and at most so many turns, and answers how many. What it was given to send stays, sent or not.
-    /// A turn with a frame left loads the link word once. Turns go on from those of the passes before, and the gate has
-    /// to let the worker pass before each.
+    /// Makes at least 1 and at most this many turns, and returns how many. What it was given to send stays, sent or
+    /// not. A turn with a frame left loads the link word once. Turns go on from those of the passes before, and the
+    /// gate has to let the worker pass before each.
     pub(crate) fn pass<G: TurnGate>(&mut self, gate: &G, turns: u32) -> u32
         requires some { 1 ≤ turns }
         requires gate { LetsPass (G.lets gate.now) self.old.key.worker self.old.turn turns }
@@ -48,11 +48,18 @@ impl Sending {
 }
 
 impl Worker for Sending {
+    ghost use Rattle.io_edges.specs.Gates.{LetsWorker};
     ghost use Rattle.cluster_run.specs.Workers.{SendingKey};
 
     ghost Key = { SendingKey };
 
     ghost key = { λ w. w.key };
+
+    ghost Lets = { λ lets key. LetsWorker lets key.worker };
+
+    fn pass<G: TurnGate>(&mut self, gate: &G, turns: u32) -> u32 {
+        Sending::pass(self, gate, turns)
+    }
 }
 
 impl Giver for Sending {
@@ -84,7 +91,7 @@ pub struct Moving {
 }
 
 impl Moving {
-    /// The worker with this number, before its first turn in a session. Both ends are those of one lane.
+    /// Returns the worker with this number, before its first turn in a session. Both ends are those of one lane.
     pub fn new(mover: MoveEnd, back: BackEnd, worker: u32) -> Moving
         requires { back.lane ≡ mover.lane }
         ensures { result ≡ record { key = record { worker = worker; lane = mover.lane }; turn = 0; tries = tries mover.part; loads = back.part.loads } }
@@ -97,7 +104,7 @@ impl Moving {
         }
     }
 
-    /// Makes at least 1 and at most so many turns, and answers how many; `turns` is at least 1. In each it tries to
+    /// Makes at least 1 and at most this many turns, and returns how many; `turns` is at least 1. In each it tries to
     /// move, and loads once on the way back. The worker's number is the seed of its choices. Turns go on from those of
     /// the passes before, and the gate has to let it pass before each.
     pub fn pass<G: TurnGate>(&mut self, gate: &G, turns: u32) -> u32
@@ -135,11 +142,18 @@ impl Moving {
 }
 
 impl Worker for Moving {
+    ghost use Rattle.io_edges.specs.Gates.{LetsWorker};
     ghost use Rattle.cluster_run.specs.Workers.{WorkerKey};
 
     ghost Key = { WorkerKey };
 
     ghost key = { λ w. w.key };
+
+    ghost Lets = { λ lets key. LetsWorker lets key.worker };
+
+    fn pass<G: TurnGate>(&mut self, gate: &G, turns: u32) -> u32 {
+        Moving::pass(self, gate, turns)
+    }
 }
 
 impl Model for Moving {
@@ -154,7 +168,7 @@ impl Model for Moving {
     ghost invariant = { IsMoving };
 }
 
-/// A list with room for so many frames. The only error is running out of memory.
+/// Returns a list with room for this many frames. Returns an error if memory runs out.
 pub fn room_for(alloc: Global, frames: usize) -> Result<FrameList, AllocError>
     ensures { IfOk result (λ list. (list.frames ≡ []) × (list.spare ≡ frames)) }
 {
@@ -176,8 +190,8 @@ pub struct Receiving {
 }
 
 impl Receiving {
-    /// The worker with this number, before its first turn in a session, with an empty list that has room for just so
-    /// many frames. Its end has received nothing.
+    /// Returns the worker with this number, before its first turn in a session, with an empty list that has room for
+    /// just this many frames. Its end has received nothing.
     pub fn new(end: RecvEnd, got: FrameList, room: usize, worker: u32) -> Receiving
         requires received { end.part.got ≡ [] }
         requires none { got.frames ≡ [] }
@@ -193,7 +207,7 @@ impl Receiving {
         }
     }
 
-    /// Makes at most so many turns, and no more than the list has room for. It answers how many: at least one, where
+    /// Makes at most this many turns, and no more than the list has room for. Returns how many: at least one, if
     /// there is room and `turns` isn't 0. Each turn loads a flag once, and what was received before stays in front.
     /// Turns go on from those of the passes before, and the gate has to let the worker pass before each.
     pub fn pass<G: TurnGate>(&mut self, gate: &G, turns: u32) -> u32
@@ -218,14 +232,14 @@ impl Receiving {
         made
     }
 
-    /// How many frames were received.
+    /// Returns how many frames were received.
     pub fn count(&self) -> usize
         ensures { result ≡ length self.now.got }
     {
         self.got.len()
     }
 
-    /// The end of the receiving worker, and the frames that were received, in order.
+    /// Returns the end of the receiving worker, and the frames that were received, in order.
     pub fn into_parts(self) -> (RecvEnd, FrameList)
         ensures lane { result.0.lane ≡ self.key.lane }
         ensures received { result.0.part.got ≡ self.got }
@@ -236,11 +250,18 @@ impl Receiving {
 }
 
 impl Worker for Receiving {
+    ghost use Rattle.io_edges.specs.Gates.{LetsWorker};
     ghost use Rattle.cluster_run.specs.Workers.{WorkerKey};
 
     ghost Key = { WorkerKey };
 
     ghost key = { λ w. w.key };
+
+    ghost Lets = { λ lets key. LetsWorker lets key.worker };
+
+    fn pass<G: TurnGate>(&mut self, gate: &G, turns: u32) -> u32 {
+        Receiving::pass(self, gate, turns)
+    }
 }
 
 impl Taker for Receiving {
@@ -271,7 +292,7 @@ pub struct Cutting {
 }
 
 impl Cutting {
-    /// The worker with this number, before its turn in a session. The link isn't cut.
+    /// Returns the worker with this number, before its turn in a session. The link isn't cut.
     pub fn new(end: CutEnd, worker: u32) -> Cutting
         requires { end.part.cut ≡ false }
         ensures { result ≡ record { key = record { worker = worker; lane = end.lane }; turn = 0; cut = false } }
@@ -296,14 +317,14 @@ impl Cutting {
         self.clock = self.clock.after(first, made);
     }
 
-    /// Whether the link was cut.
+    /// Returns whether the link was cut.
     pub fn is_cut(&self) -> bool
         ensures { result ≡ self.now.cut }
     {
         self.is_cut
     }
 
-    /// The end of the cutting worker, at the end of a session.
+    /// Returns the end of the cutting worker, at the end of a session.
     pub fn into_end(self) -> CutEnd
         ensures lane { result.lane ≡ self.key.lane }
         ensures cut { result.part.cut ≡ self.cut }
@@ -313,11 +334,19 @@ impl Cutting {
 }
 
 impl Worker for Cutting {
+    ghost use Rattle.io_edges.specs.Gates.{LetsWorker};
     ghost use Rattle.cluster_run.specs.Workers.{WorkerKey};
 
     ghost Key = { WorkerKey };
 
     ghost key = { λ w. w.key };
+
+    ghost Lets = { λ lets key. LetsWorker lets key.worker };
+
+    fn pass<G: TurnGate>(&mut self, gate: &G, turns: u32) -> u32 {
+        Cutting::pass(self, gate);
+        turns.min(1)
+    }
 }
 
 impl Model for Cutting {

@@ -8,7 +8,7 @@ use Rattle.table_lane.specs.MoveChoice.{Moves}
 use Rattle.lane_workers.specs.declared.choices.Stage.{Stage}
 use Rattle.lane_workers.specs.declared.choices.Stage.TheVariants.{Taking, StoringHeaders, StoringFlags}
 
--- at most so many entries the mover holds before it stores their headers
+-- the most entries that the mover holds before it stores their headers
 abbrev pub most_held : ℕ
 most_held = 8
 
@@ -69,13 +69,13 @@ noted c (Flag number) = record {
 }
 noted c Idle = record { state = c.state; stage = Taking; held = 0; waiting = 0 }
 
--- So many moves lead from one part of the mover to another, each by the choice of its turn. The choices after them are
--- the last ones.
+-- This many moves lead from one part of the mover to another, each by the choice of its turn. The choices after them
+-- are the last ones.
 pub data Chosen (seed : ℕ) (from : MovePart) : ℕ → Choosing → MovePart → Type 0 where
   NoMove : {choices : Choosing} → choices ≡ first_choices seed → Chosen seed from 0 choices from
   OneMore : {moves : ℕ} {before after : Choosing} {part to : MovePart} (answer : MoveAnswer)
       → Chosen seed from moves before part → Moves part (choice_of before) answer to → after ≡ noted (chosen before) answer → Chosen seed from (moves + 1) after to
 
--- so many moves, which the generator chooses by this seed, lead from one part of the mover to another
+-- this many moves, which the generator chooses by this seed, lead from one part of the mover to another
 abbrev pub ChosenMoves : ℕ → ℕ → MovePart → MovePart → Type 0
 ChosenMoves seed moves from to = (last : Choosing) × Chosen seed from moves last to

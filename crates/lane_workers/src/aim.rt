@@ -13,27 +13,27 @@ pub struct Aim {
     pub entries: u32,
 }
 
-/// So many turns has a pass of the taker, at most.
+/// The most turns of a pass of the taker.
 const TAKER_TURNS: u32 = 4_096;
 
-/// So many it has at most where a cut waits for frames.
+/// The most turns of it if a cut waits for frames.
 const FEW_TURNS: usize = 64;
 
-/// So many turns has a pass, at most, where one thread makes those of all workers in turn.
+/// The most turns of a pass if one thread makes those of all workers in turn.
 const TURNS_IN_TURN: usize = 1_024;
 
 impl Aim {
-    /// Whether the link is to be cut with so many frames taken.
+    /// Returns whether the link is to be cut with this many frames taken.
     pub(crate) fn is_cut_due(&self, taken: usize) -> bool {
         self.cut_after.is_some_and(|count| taken >= count)
     }
 
-    /// Whether nothing is left to do with so many frames taken.
+    /// Returns whether nothing is left to do with this many frames taken.
     pub(crate) fn is_reached(&self, taken: usize) -> bool {
         self.cut_after.is_none() && taken >= self.total
     }
 
-    /// How many turns a pass of the taker has, at most, in a round that begins with so many frames taken.
+    /// Returns how many turns a pass of the taker has, at most, in a round that begins with this many frames taken.
     pub(crate) fn taker_turns(&self, taken: usize) -> u32
         ensures { 1 ≤ result }
     {
@@ -43,8 +43,8 @@ impl Aim {
         }
     }
 
-    /// How many turns a pass has, at most, where one thread makes those of all workers in turn. They are as many as the
-    /// ring takes frames, and no more than the session brings.
+    /// Returns how many turns a pass has, at most, if one thread makes those of all workers in turn. They are as many
+    /// as the ring takes frames, and no more than the session brings.
     pub(crate) fn turns_in_turn(&self) -> u32
         ensures some { 1 ≤ result }
         ensures few { result ≤ 1024 }

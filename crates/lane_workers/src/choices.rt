@@ -8,7 +8,7 @@ use rand_xoshiro::rand_core::utils::NextWord;
 use std::marker::Model;
 use table_lane::MoveAnswer;
 
-/// At most so many entries the mover holds before it stores their headers.
+/// The most entries that the mover holds before it stores their headers.
 const MOST_HELD: u32 = 8;
 
 /// What the mover does with the entries that it holds.
@@ -33,7 +33,7 @@ pub(crate) struct Choices {
 }
 
 impl Choices {
-    /// The choices by the words of the generator SplitMix64 with this seed.
+    /// Returns the choices by the words of the generator SplitMix64 with this seed.
     pub(crate) fn new(seed: u64) -> Choices
         ensures { result ≡ first_choices seed }
     {
@@ -45,8 +45,8 @@ impl Choices {
         }
     }
 
-    /// The choice of the next turn. While entries are taken, each that is held is an open move, and the number after
-    /// these is the look for the next entry.
+    /// Returns the choice of the next turn. While entries are taken, each that is held is an open move, and the number
+    /// after these is the look for the next entry.
     pub(crate) fn choice(&mut self) -> u64
         ensures choice { result ≡ choice_of self.old }
         ensures goes_on { self.new ≡ chosen self.old }

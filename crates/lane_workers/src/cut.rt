@@ -5,7 +5,7 @@ ghost use Rattle.table_lane.specs.Knowledge.{link_cut};
 use crate::turn_gate::TurnGate;
 use table_lane::CutEnd;
 
-/// Makes the one turn of the worker that cuts the link, and answers 1. Before it the pass passes the gate with the
+/// Makes the one turn of the worker that cuts the link, and returns 1. Before it the pass passes the gate with the
 /// number `first`, which has to let it. It takes no memory and never waits for another worker.
 pub fn cut_pass<G: TurnGate>(end: &mut CutEnd, gate: &G, worker: u32, first: u64) -> u32
     requires gate { G.lets gate.now worker first }

@@ -11,7 +11,7 @@ pub(crate) enum Turn {
     Over,
 }
 
-/// After so many idle turns in a row a pass ends. So a pass with more turns than these came to something.
+/// After this many idle turns in a row a pass ends. So a pass with more turns than these came to something.
 pub const IDLE_TURNS: u32 = 16;
 
 /// How many turns in a row were idle.
@@ -26,7 +26,7 @@ impl Idling {
         Idling { turns: 0 }
     }
 
-    /// Whether the pass ends with the turn that this came of.
+    /// Returns whether the pass ends with the turn that this came of.
     pub(crate) fn ends_with(&mut self, turn: Turn) -> bool {
         match turn {
             Turn::Useful => {

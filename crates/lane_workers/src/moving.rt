@@ -34,14 +34,13 @@ fn move_turn(mover: &mut MoveEnd, back: &mut BackEnd, choices: &mut Choices) -> 
     Turn::Useful
 }
 
-/// Makes at least 1 and at most `turns` turns of the worker that moves frames and brings indices back, and answers how
+/// Makes at least 1 and at most `turns` turns of the worker that moves frames and brings indices back, and returns how
 /// many. Before each it passes the gate with the turn's number, counted from `first`. A turn is one [`MoveEnd::step`]
 /// and one [`BackEnd::step`]. The mover takes up to eight entries, stores their headers, and then their flags. In which
 /// order it stores headers is chosen by words of the generator SplitMix64, so that they overtake one another. Its seed
 /// is the sum of `choices` and `first` modulo 2^64.
 ///
-/// The pass may end early, where its turns did nothing for a while. It takes no memory and never waits for another
-/// worker.
+/// The pass may end early, if its turns did nothing for a while. It takes no memory and never waits for another worker.
 ///
 /// `turns` has to be at least 1, and `first + turns` fits a `u64`. The gate has to let the worker pass before each
 /// turn.

@@ -47,16 +47,16 @@ pub(crate) struct Progress {
     is_small: bool,
 }
 
-/// So often the cutting worker looks how far the taker is, and lets other threads run, before it cuts anyway.
+/// Polls of the receiver's progress, each followed by a yield, before the link is cut regardless.
 const CUT_LOOKS: u32 = 20_000;
 
 /// In a ring of fewer entries a worker looks at the ring itself, since what the others do in between is few entries.
 const SMALL_RING: u32 = 16;
 
-/// There it lets other threads run after so many idle passes in a row.
+/// There it lets other threads run after this many idle passes in a row.
 const PASSES_TO_YIELD: u32 = 4;
 
-/// So many turns has a pass of the giver there, at most.
+/// The most turns of a pass of the giver there.
 const SMALL_GIVER_TURNS: u32 = 4_096;
 
 /// In a larger ring it has fewer: it tells of its frames then, and the mover moves them while it sends others.
@@ -65,16 +65,16 @@ const GIVER_TURNS: u32 = 64;
 /// In a larger ring a worker looks at most so often for news before its next pass.
 const LOOKS: u32 = 1_024;
 
-/// After so many of them it lets other threads run at each.
+/// After this many of them it lets other threads run at each.
 const QUICK_LOOKS: u32 = 64;
 
-/// After so many idle passes in a row a giver leaves the round, in a large ring and in a small one.
+/// After this many idle passes in a row a giver leaves the round, in a large ring and in a small one.
 const IDLE_PASSES: u32 = 16;
 
 const SMALL_IDLE_PASSES: u32 = 4_096;
 
 impl Progress {
-    /// At the start of a round at a ring of so many entries, where nothing is known and nobody has left.
+    /// At the start of a round at a ring of this many entries, if nothing is known and nobody has left.
     pub(crate) fn new(entries: u32) -> Progress {
         Progress {
             given: News::new(),
@@ -88,7 +88,7 @@ impl Progress {
         }
     }
 
-    /// How many turns a pass of the giver has, at most.
+    /// Returns how many turns a pass of the giver has, at most.
     pub(crate) fn giver_turns(&self) -> u32
         ensures { 1 ≤ result }
     {
@@ -123,7 +123,7 @@ impl Progress {
         }
     }
 
-    /// A pause after a pass, of which so many in a row were idle.
+    /// A pause after a pass, of which this many in a row were idle.
     pub(crate) fn pause(&self, role: Role, told: u64, idle: u32) {
         if !self.is_small {
             self.await_news(role, told);
@@ -147,7 +147,7 @@ impl Progress {
         }
     }
 
-    /// Whether a worker whose last passes were idle, so many in a row, has to leave the round.
+    /// Returns whether a worker whose last passes were idle, this many in a row, has to leave the round.
     pub(crate) fn is_stuck(&self, idle: u32) -> bool {
         idle >= if self.is_small {
             SMALL_IDLE_PASSES
@@ -156,7 +156,7 @@ impl Progress {
         }
     }
 
-    /// Tells that so many frames were taken in the session.
+    /// Tells that this many frames were taken in the session.
     pub(crate) fn count(&self, taken: usize) {
         self.frames.store(taken as u64, Ordering::SeqCst);
     }
@@ -166,7 +166,7 @@ impl Progress {
         self.over.store(true, Ordering::SeqCst);
     }
 
-    /// Whether the round is over.
+    /// Returns whether the round is over.
     pub(crate) fn is_over(&self) -> bool {
         self.over.load(Ordering::SeqCst)
     }
@@ -177,7 +177,7 @@ impl Progress {
         self.tell(Role::Giver);
     }
 
-    /// Whether the giver has left the round.
+    /// Returns whether the giver has left the round.
     pub(crate) fn has_giver_left(&self) -> bool {
         self.giver_left.load(Ordering::SeqCst)
     }
@@ -188,12 +188,12 @@ impl Progress {
         self.tell(Role::Mover);
     }
 
-    /// Whether the mover has left the round.
+    /// Returns whether the mover has left the round.
     pub(crate) fn has_mover_left(&self) -> bool {
         self.mover_left.load(Ordering::SeqCst)
     }
 
-    /// Lets other threads run until so many frames were taken, the round is over, the mover has left it, or it has
+    /// Lets other threads run until this many frames were taken, the round is over, the mover has left it, or it has
     /// looked often.
     pub(crate) fn await_taken(&self, count: usize) {
         for _ in 0..CUT_LOOKS {

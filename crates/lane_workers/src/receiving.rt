@@ -8,7 +8,7 @@ use crate::turn_gate::TurnGate;
 use step_kinds::FrameList;
 use table_lane::{RecvAnswer, RecvEnd};
 
-/// One turn: the next frame, where it has landed, is put after the others in `got`.
+/// One turn: the next frame, if it has landed, is put after the others in `got`.
 fn recv_turn(end: &mut RecvEnd, got: &mut FrameList) -> Turn
     requires { 0 < got.old.spare }
     ensures lane { end.new.lane ≡ end.old.lane }
@@ -29,13 +29,12 @@ fn recv_turn(end: &mut RecvEnd, got: &mut FrameList) -> Turn
     }
 }
 
-/// Makes at least 1 and at most `turns` turns of the worker that receives, and answers how many. Before each it passes
+/// Makes at least 1 and at most `turns` turns of the worker that receives, and returns how many. Before each it passes
 /// the gate with the turn's number, counted from `first`. A turn is one [`RecvEnd::recv`], and what comes is put after
 /// the others in `got`, into room that is promised there. So `got` grows by just the frames that the end received, in
 /// their order, and its room shrinks by their number.
 ///
-/// The pass may end early, where its turns did nothing for a while. It takes no memory and never waits for another
-/// worker.
+/// The pass may end early, if its turns did nothing for a while. It takes no memory and never waits for another worker.
 ///
 /// `got` has to have room for `turns` frames. `turns` is at least 1, and `first + turns` fits a `u64`. The gate has to
 /// let the worker pass before each turn.

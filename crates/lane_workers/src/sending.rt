@@ -8,7 +8,7 @@ use crate::turn_gate::TurnGate;
 use step_kinds::FrameList;
 use table_lane::{SendAnswer, SendEnd};
 
-/// One turn: the first frame of `todo`, where there is one, is sent, or put back before the others where it is refused.
+/// One turn: the first frame of `todo`, if there is one, is sent, or put back before the others where it is refused.
 fn send_turn(end: &mut SendEnd, todo: &mut FrameList) -> Turn
     requires bytes { HaveBytes todo.old.frames }
     requires counted { length end.old.part.sent + length todo.old.frames < most_lane_frames }
@@ -38,13 +38,13 @@ fn send_turn(end: &mut SendEnd, todo: &mut FrameList) -> Turn
     }
 }
 
-/// Makes at least 1 and at most `turns` turns of the worker that sends, and answers how many. Before each it passes the
+/// Makes at least 1 and at most `turns` turns of the worker that sends, and returns how many. Before each it passes the
 /// gate with the turn's number, counted from `first`. A turn with a frame in `todo` is one [`SendEnd::send`] of the
 /// first; a frame that is refused stands before the others again. So what was sent and what is left in `todo` are
 /// together what they were before, in the same order. Room that a frame leaves in `todo` is promised again.
 ///
-/// The pass may end early: where `todo` is empty, where the link was cut, or where its turns did nothing for a while.
-/// It takes no memory and never waits for another worker.
+/// The pass may end early: if `todo` is empty, if the link was cut, or if its turns did nothing for a while. It
+/// takes no memory and never waits for another worker.
 ///
 /// Each frame in `todo` has to have a byte. What was sent and what is to be sent are fewer than 2^62 frames. `turns` is
 /// at least 1, and `first + turns` fits a `u64`. The gate has to let the worker pass before each turn.

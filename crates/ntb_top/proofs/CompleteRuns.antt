@@ -1,4 +1,4 @@
--- Where nothing outside fails, a command that reads answers all bytes of its source, and a load writes its summary.
+-- If nothing outside fails, a command that reads answers all bytes of its source, and a load writes its summary.
 use Rattle.std.proofs.Common.{◌≡◌, ◌∙◌, ℕ, ◌+◌, ◌≤◌, Bool, true, false, Option, Some, Result, Ok, Err, List, [], ◌++◌, length, inl, inr, refl, sym, subst, ap, arith, nat_lt, append-nil, MatchBool}
 use Rattle.std.proofs.lemmas.Bool.{le-ltb, false≢true}
 use Rattle.std.proofs.lemmas.List.{length-append}
@@ -92,7 +92,7 @@ whole_content command before after status content reads honest run whole =
     let all : run.bytes ≡ content = sym (taken.1 ∙ ap (λ rest. run.bytes ++ rest) none ∙ append-nil run.bytes) in
     record { output = whole.output; answers = subst (λ (bytes : List ℕ). IsReplyOf command bytes whole.output) all reply; status_is = whole.status_is; text = whole.text; once = whole.once }
 
--- Where source and sink don't fail, a command that reads answers the whole script in full, or is out of memory.
+-- If source and sink don't fail, a command that reads answers the whole script in full, or is out of memory.
 pub runs_complete : RunsComplete
 runs_complete command before after status content reads honest run = elim run.ends [
   | inl whole ↦ inl (whole_content command before after status content reads honest run whole)
@@ -105,7 +105,7 @@ runs_complete command before after status content reads honest run = elim run.en
   ]
 ]
 
--- Where source and sink don't fail, `replay` of a faultless script writes its whole report, or is out of memory.
+-- If source and sink don't fail, `replay` of a faultless script writes its whole report, or is out of memory.
 pub replays_complete : ReplaysComplete
 replays_complete words before after status content plan replay honest declares run =
     elim (runs_complete (Plain Replay) before after status content refl honest (answered_as (command_of words) (Some (Plain Replay)) before after status replay run)) [
@@ -123,7 +123,7 @@ load_written seed frames bytes before after status none whole =
     let answer : whole.output ≡ reply_done (load_text seed frames) = reply.answer in
     (whole.status_is ∙ ap (λ (o : Output). o.status) answer, subst (λ (o : Output). HoldsAll before.held after.held o.text) answer whole.text)
 
--- Where the sink doesn't fail, `load` writes its summary, or is out of memory.
+-- If the sink doesn't fail, `load` writes its summary, or is out of memory.
 pub loads_complete : LoadsComplete
 loads_complete words before after status seed frames load calm said =
     let run = answered_as (command_of words) (Some (Plain (Load seed frames))) before after status load said in

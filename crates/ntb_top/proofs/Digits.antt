@@ -30,7 +30,7 @@ pub digits-past : (value : ℕ) (s : List ℕ) (i : ℕ) → i < length s → is
     2 ^ 64 ≤ value * 10 + (get_or s i 0 - 48) → digits_from value (drop i s) ≡ None
 digits-past value s i h e large = digits-next value s i h e ∙ digits-too_large (value * 10 + (get_or s i 0 - 48)) (drop (i + 1) s) large
 
--- Past the last digit of a word the number that was read is the value so far, where it is below 2^64.
+-- Past the last digit of a word the number that was read is the value so far, if it is below 2^64.
 pub digits-done : (value : ℕ) (s : List ℕ) (i : ℕ) → length s ≤ i → value < 2 ^ 64 → digits_from value (drop i s) ≡ Some value
 digits-done value s i h small = let none : drop i s ≡ [] = grind (arith, common_steps) in rw none (grind arith)
 

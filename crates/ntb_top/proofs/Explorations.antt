@@ -1,4 +1,4 @@
--- Where `explore` ends with status 0, the text of all outcomes of a plan was written.
+-- If `explore` ends with status 0, the text of all outcomes of a plan was written.
 use Rattle.std.proofs.Common.{◌≡◌, ℕ, Bool, true, false, Option, Result, Ok, Err, List, length, nat_lt, inl, inr, refl, sym, subst, arith}
 use Rattle.std.specs.Prelude.{MatchBool}
 use Rattle.step_kinds.specs.Limits.{most_script_bytes}
@@ -39,7 +39,7 @@ all_written bytes before after output (Ok plan) is (inr many) zero text =
 all_written bytes before after output (Err fault) is answer zero text =
     absurd (subst (λ (output : Output). output.status ≡ 0 → ⊥) (sym answer) (λ zero. omega arith) zero)
 
--- Where `explore` ends with status 0, it has written all outcomes of the plan that it read, and the number of states.
+-- If `explore` ends with status 0, it has written all outcomes of the plan that it read, and the number of states.
 pub explorations_true : ExplorationsAreTrue
 explorations_true words before after is run =
     let whole = run.headline refl in

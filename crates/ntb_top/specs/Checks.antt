@@ -24,7 +24,7 @@ check_frames_of plan = sum (map frames_in plan.traffic)
 abbrev pub breaks_of : Plan → ℕ
 breaks_of plan = length plan.traffic - check_frames_of plan
 
--- how much a plan with so many hosts has, as one line
+-- how much a plan with this many hosts has, as one line
 abbrev pub plan_counts_text : Plan → ℕ → List ℕ
 plan_counts_text plan hosts =
     line_of
@@ -36,7 +36,7 @@ plan_counts_text plan hosts =
 abbrev pub check_counts_text : Before → List ℕ
 check_counts_text declared = plan_counts_text declared.plan (length declared.hosts)
 
--- the least and the largest number that the word may spell, where it has a range
+-- the least and the largest number that the word may spell, if it has a range
 abbrev pub range_text : Option Range → List ℕ
 range_text None = []
 range_text (Some range) = numbers_text (range.least ∷ range.most ∷ [])

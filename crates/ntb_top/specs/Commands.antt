@@ -37,7 +37,7 @@ command_of (word ∷ []) = lone_command word
 command_of (word ∷ seed ∷ frames ∷ []) = if bytes_eq word (codes "load") then load_command (number_below (2 ^ 64) seed) (number_below (2 ^ 32) frames) else None
 command_of words = None
 
--- the command, where it takes no thread
+-- the command, if it takes no thread
 abbrev pub plain_part : Option Command → Option PlainCommand
 plain_part (Some (Plain command)) = Some command
 plain_part command = None
@@ -47,7 +47,7 @@ abbrev pub IsPlain : Option Command → Type 0
 IsPlain (Some (Threaded command)) = ⊥
 IsPlain command = Unit {0}
 
--- the numbers of a command are in their ranges, where it has any
+-- the numbers of a command are in their ranges, if it has any
 abbrev pub IsInRange : Command → Type 0
 IsInRange (Plain (Load seed frames)) = (1 ≤ frames) × (frames ≤ most_load_frames)
 IsInRange command = Unit {0}

@@ -12,7 +12,7 @@ use Rattle.ntb_top.specs.declared.input.Input.TheVariants.{TooLong, Whole}
 use Rattle.ntb_top.specs.declared.input.Stop.{Stop}
 use Rattle.ntb_top.specs.declared.input.Stop.TheVariants.{SourceFailed}
 
--- the source at one moment: what is left, where it tells it, how often it has failed, and how often it was read from
+-- the source at one moment: what is left, if it tells it, how often it has failed, and how often it was read from
 pub record ShellGiven : Type 0 where
   pub left : Option (List ℕ)
   pub faults : ℕ
@@ -27,7 +27,7 @@ pub record HasRead {T : Type 0} (reading : Bool) (before after : ShellGiven) (by
   pub unread : reading ≡ false → (bytes ≡ []) × (after.reads ≡ before.reads)
   -- all that the source has is read, unless that is too long
   pub whole : reading ≡ true → OnOk result (length bytes ≤ most_script_bytes → IsAtEnd after.left)
-  -- a failed read comes only of a command that reads, where the source failed, and else it didn't fail
+  -- a failed read comes only of a command that reads, if the source failed, and else it didn't fail
   pub failed : result ≡ Err SourceFailed → (reading ≡ true) × Rose before.faults after.faults
   pub kept : (result ≡ Err SourceFailed → ⊥) → after.faults ≡ before.faults
 
@@ -48,20 +48,20 @@ pub record HasReplied {T : Type 0} (reading : Bool) (IsAnswer : List ℕ → T �
   pub read : HasRead reading before after bytes result
   pub answers : IfOk result (IsAnswer bytes)
 
--- the sink at one moment: what it holds, where it tells it, how often it has failed, and how often it was written to
+-- the sink at one moment: what it holds, if it tells it, how often it has failed, and how often it was written to
 pub record ShellHeld : Type 0 where
   pub held : Option (List ℕ)
   pub faults : ℕ
   pub writes : ℕ
 
--- the text was written whole, where each write took a byte of it, and the status is the output's
+-- the text was written whole, if each write took a byte of it, and the status is the output's
 pub record IsWritten (before after : ShellHeld) (output : Output) (status : ℕ) : Type 0 where
   pub status_is : status ≡ output.status
   pub text : HoldsAll before.held after.held output.text
   pub once : after.writes ≤ before.writes + length output.text
   pub kept : after.faults ≡ before.faults
 
--- the sink failed, and a part from the front of the text was written, where each write but the last one took a byte
+-- the sink failed, and a part from the front of the text was written, if each write but the last one took a byte
 pub record IsCut (before after : ShellHeld) (output : Output) (status : ℕ) : Type 0 where
   pub status_is : status ≡ number_of SinkFailed
   pub text : HoldsPartAtWrites before.held after.held output.text before.writes after.writes

@@ -9,8 +9,8 @@ use Rattle.command_reply.specs.declared.status.Status.TheVariants.{Done, OutOfMe
 use Rattle.ntb_top.specs.Answers.{IsAnswerTo}
 use Rattle.ntb_top.specs.Commands.{command_of, reads_script}
 
--- The source and the sink at one moment: what is left and what is held, where they tell it. Also how often each has
--- failed, and how often it was read from or written to, where it counts that.
+-- The source and the sink at one moment: what is left and what is held, if they tell it. Also how often each has
+-- failed, and how often it was read from or written to, if it counts that.
 pub record Outside : Type 0 where
   pub left : Option (List ℕ)
   pub read_faults : ℕ
@@ -27,7 +27,7 @@ pub record IsSilent (before after : Outside) : Type 0 where
 
 -- The four ends of a run
 
--- an answer: its status, and its text written whole, where each write took a byte of it
+-- an answer: its status, and its text written whole, if each write took a byte of it
 pub record EndsWhole (IsAnswer : Output → Type 0) (before after : Outside) (status : ℕ) : Type 0 where
   pub output : Output
   pub answers : IsAnswer output
@@ -69,7 +69,7 @@ IsAtEnd (Some left) = left ≡ []
 abbrev pub HasReply : ℕ → Type 0
 HasReply status = (status ≡ number_of SourceFailed → ⊥) × (status ≡ number_of OutOfMemory → ⊥)
 
--- The whole contract of a run, with the bytes that were read, where `IsAnswer` says which outputs answer them.
+-- The whole contract of a run, with the bytes that were read, if `IsAnswer` says which outputs answer them.
 pub record HasAnswered (reading : Bool) (IsAnswer : List ℕ → Output → Type 0) (before after : Outside) (status : ℕ) : Type 0 where
   pub bytes : List ℕ
   -- they are what was taken from the source, never more than one byte past the limit

@@ -22,8 +22,8 @@ use std::sync::Wait;
 use std::thread::Threads;
 
 /// Does all that the program does as a process: [`run_program`] on its arguments but the first, which is its name, and
-/// answers its end. Arguments that aren't all text are no command, as no words are. Where there is no memory for
-/// the arguments it answers status 6, and neither reads nor writes.
+/// returns its end. Arguments that aren't all text are no command, as no words are. If there is no memory for the
+/// arguments it answers status 6, and neither reads nor writes.
 ///
 /// The gate has to let all workers with numbers below 524,280 pass, before each turn with a number below 2^64.
 pub fn run_arguments<R: Threads + Wait + Sync, S: Source, K: Sink, G: Gate>(
@@ -61,7 +61,7 @@ pub fn run_arguments<R: Threads + Wait + Sync, S: Source, K: Sink, G: Gate>(
     }
 }
 
-// The words of a process's arguments. The only error is running out of memory.
+// Returns the words of a process's arguments. Returns an error if memory runs out.
 fn words_after_name(alloc: Global, arguments: io::Result<Args>) -> Result<Vec<String>, AllocError>
     ensures words { IfOk result (λ words. map string_bytes words.items ≡ shell_words_of arguments) }
     ensures wanting { AreWanting arguments → IsErr result }
@@ -73,7 +73,7 @@ fn words_after_name(alloc: Global, arguments: io::Result<Args>) -> Result<Vec<St
     }
 }
 
-// All arguments but the first.
+// Returns all arguments but the first.
 fn all_but_first(alloc: Global, arguments: Args) -> Result<Vec<String>, AllocError>
     ensures { IfOk result (λ words. words.items ≡ drop 1 (into_iter_items arguments)) }
 {

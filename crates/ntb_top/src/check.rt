@@ -20,10 +20,10 @@ use step_list::Stretch;
 /// The most bytes of what is said of a line's fault: its word's number, its cause, and the two numbers of a range.
 const MOST_PLACE_BYTES: usize = 64;
 
-/// The reply of `check` to a script of at most 16,777,216 bytes. Where the script has no fault, the status is 0, and
-/// the text is `ok` and how much it declares. Otherwise the status is 3, and the text has its first line with a fault,
-/// the word and the cause. The range of the number that should stand there follows, if it has one. The only error is
-/// out of memory.
+/// Returns the reply of `check` to a script of at most 16,777,216 bytes. If the script has no fault, the status is 0,
+/// and the text is `ok` and how much it declares. Otherwise the status is 3, and the text has its first line with a
+/// fault, the word and the cause. The range of the number that should stand there follows, if it has one. Returns an
+/// error if memory runs out.
 pub fn check_reply(alloc: Global, bytes: &[u8]) -> Result<Reply, AllocError>
     requires { length bytes.now ≤ most_script_bytes }
     ensures { IfOk result (λ reply. IsCheckOf bytes.now reply) }
@@ -47,7 +47,7 @@ fn counts_of(alloc: Global, declared: Reader) -> Result<Vec<u8>, AllocError>
     counts_line(alloc, &script, hosts)
 }
 
-// How much a script declares that has so many hosts, as one line.
+// How much a script declares that has this many hosts, as one line.
 fn counts_line(alloc: Global, script: &Script, hosts: usize) -> Result<Vec<u8>, AllocError>
     requires { IsWhole (plan_in script.now) }
     ensures { IfOk result (λ text. text.items ≡ plan_counts_text (plan_in script.now) hosts) }
@@ -66,7 +66,7 @@ fn counts_line(alloc: Global, script: &Script, hosts: usize) -> Result<Vec<u8>, 
     Ok(text)
 }
 
-// How many steps stretches are, which are no more than a script may have.
+// Returns how many steps stretches are, which are no more than a script may have.
 fn steps_in(stretches: &[Stretch]) -> usize
     requires { length (all_lines stretches.now) ≤ most_steps }
     ensures { result ≡ length (all_lines stretches.now) }
@@ -83,7 +83,7 @@ fn steps_in(stretches: &[Stretch]) -> usize
     steps
 }
 
-// How many frames are among the traffic.
+// Returns how many frames are among the traffic.
 fn frames_in(traffic: &[Traffic]) -> usize
     ensures frames { result ≡ sum (map frames_of_item traffic.now) }
     ensures few { result ≤ length traffic.now }
@@ -102,7 +102,7 @@ fn push_count(text: &mut Vec<u8>, word: &str, count: usize) -> Result<(), AllocE
     push_numbers(text, &[count as u64])
 }
 
-// Where a line's fault was found, and what it is.
+// If a line's fault was found, and what it is.
 fn place_of(fault: LineFault) -> ArrayString<MOST_PLACE_BYTES>
     ensures text { result.bytes ≡ check_place_text fault }
     ensures short { length result.bytes ≤ 64 }
@@ -120,7 +120,7 @@ fn place_of(fault: LineFault) -> ArrayString<MOST_PLACE_BYTES>
     text
 }
 
-// Adds a number after a space, where there is room for the longest.
+// Adds a number after a space, if there is room for the longest.
 fn push_number(text: &mut ArrayString<MOST_PLACE_BYTES>, number: u32)
     requires { length text.old.bytes + 11 ≤ 64 }
     ensures text { text.new.bytes ≡ text.old.bytes ++ 32 ∷ decimal number }

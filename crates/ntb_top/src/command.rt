@@ -42,7 +42,7 @@ pub enum PlainCommand {
 }
 
 impl PlainCommand {
-    /// Whether the command reads its source.
+    /// Returns whether the command reads its source.
     pub fn reads(self) -> bool
         ensures { result ≡ command_reads (Plain self) }
     {
@@ -66,7 +66,7 @@ pub enum ThreadedCommand {
     Stream,
 }
 
-/// The command that the words of a command line are: `replay`, `trace`, `check`, `explore`, `run`, `stream`,
+/// Returns the command that the words of a command line are: `replay`, `trace`, `check`, `explore`, `run`, `stream`,
 /// `reads`, or `load SEED FRAMES`.
 pub fn command_of(words: &[String]) -> Option<Command>
     ensures words { result ≡ command_by_words (map string_bytes words.now) }
@@ -81,7 +81,7 @@ pub fn command_of(words: &[String]) -> Option<Command>
     }
 }
 
-/// The command without threads that the words of a command line are, if they are one.
+/// Returns the command without threads that the words of a command line are, if they are one.
 pub fn plain_of(words: &[String]) -> Option<PlainCommand>
     ensures words { result ≡ plain_part (command_by_words (map string_bytes words.now)) }
     ensures range { IfSome (option_map Plain result) IsInRange }
@@ -92,7 +92,7 @@ pub fn plain_of(words: &[String]) -> Option<PlainCommand>
     }
 }
 
-// The command of one word that a word is.
+// Returns the command of one word that a word is.
 fn lone_command(word: &[u8]) -> Option<Command>
     ensures words { result ≡ lone_command_by_word word.now }
     ensures range { IfSome result IsInRange }
@@ -116,7 +116,7 @@ fn lone_command(word: &[u8]) -> Option<Command>
     }
 }
 
-// The load that a seed and a number of frames say.
+// Returns the load that a seed and a number of frames say.
 fn load_of(seed: &[u8], frames: &[u8]) -> Option<Command>
     ensures words { result ≡ load_command (number_below (2 ^ 64) seed.now) (number_below (2 ^ 32) frames.now) }
     ensures range { IfSome result IsInRange }
@@ -130,7 +130,7 @@ fn load_of(seed: &[u8], frames: &[u8]) -> Option<Command>
     }
 }
 
-// The number below 2^64 that a word spells: decimal digits without a leading zero but for zero itself.
+// Returns the number below 2^64 that a word spells: decimal digits without a leading zero but for zero itself.
 fn seed_of(word: &[u8]) -> Option<u64>
     ensures { result ≡ number_below (2 ^ 64) word.now }
 {
@@ -140,7 +140,7 @@ fn seed_of(word: &[u8]) -> Option<u64>
     }
 }
 
-// The value of decimal digits, below 2^64.
+// Returns the value of decimal digits, below 2^64.
 fn digits_of(digits: &[u8]) -> Option<u64>
     ensures { result ≡ (if list_all is_digit digits.now && nat_lt (value_from 0 digits.now) (2 ^ 64) then Some (value_from 0 digits.now) else None) }
 {

@@ -13,9 +13,9 @@ use table_lane::LaneProof;
 pub struct Ended {
     /// The exit status, 0 or 2 to 8.
     pub status: u8,
-    /// The record whose text was written, where `run` ended with status 0; none in every other case.
+    /// The record whose text was written, if `run` ended with status 0; none in every other case.
     pub runs: Option<RunRecord>,
-    /// The record whose text was written, where `stream` ended with status 0; none in every other case.
+    /// The record whose text was written, if `stream` ended with status 0; none in every other case.
     pub streams: Option<StreamRecord>,
     /// The proofs of that record's sessions, lane by lane: of `run` one of each, of `stream` two. None in every other
     /// case.
@@ -23,7 +23,7 @@ pub struct Ended {
 }
 
 impl Ended {
-    /// An end with this status, and nothing beside it.
+    /// Returns an end with this status, and nothing beside it.
     pub(crate) fn alone(alloc: Global, status: u8) -> Ended
         ensures status { result.status ≡ status }
         ensures alone { beside_of result ≡ nothing_beside }

@@ -38,8 +38,8 @@ impl From<AllocError> for Stop {
 /// Reads what a command is to read: all that the source has, up to one byte more than a script may have, or nothing.
 /// Each read but the last gives a byte, and a command that doesn't read makes none.
 ///
-/// [`Stop::SourceFailed`] comes only where the source failed, to a command that reads, and else the source's count of
-/// faults stays. [`Stop::OutOfMemory`] comes only when out of memory.
+/// [`Stop::SourceFailed`] comes only if the source failed, to a command that reads, and else the source's count of
+/// faults stays. The error is [`Stop::OutOfMemory`] if memory runs out.
 pub fn read_input<S: Source>(alloc: Global, reads: bool, source: &mut S) -> Result<Input, Stop>
     ensures { HasInput reads (record { left = S.left source.old; faults = S.faults source.old; reads = S.reads source.old })
         (record { left = S.left source.new; faults = S.faults source.new; reads = S.reads source.new }) result }

@@ -21,7 +21,7 @@ use std::alloc::{AllocError, Global};
 use trace_command::trace_reply;
 
 /// Does all that [`run_program`](crate::run_program) does on words that aren't `run` or `stream`, without threads, and
-/// answers the exit status. Each read but the last gives a byte, and each write but a failed last one takes a byte. It
+/// returns the exit status. Each read but the last gives a byte, and each write but a failed last one takes a byte. It
 /// always returns.
 pub fn plain_program<S: Source, K: Sink>(
     alloc: Global,
@@ -52,7 +52,7 @@ pub fn plain_program<S: Source, K: Sink>(
     run_plain(alloc, plain_of(words), source, sink)
 }
 
-/// The program on a command that takes no thread, or on words that are no command.
+/// Runs the program on a command that takes no thread, or on words that are no command.
 pub(crate) fn run_plain<S: Source, K: Sink>(
     alloc: Global,
     command: Option<PlainCommand>,
@@ -86,7 +86,7 @@ pub(crate) fn run_plain<S: Source, K: Sink>(
     }
 }
 
-// The reply to a command, or to words that are none, over this source.
+// Returns the reply to a command, or to words that are none, over this source.
 fn reply_to<S: Source>(
     alloc: Global,
     command: Option<PlainCommand>,
@@ -106,7 +106,7 @@ fn reply_to<S: Source>(
     }
 }
 
-// The reply of a command to the bytes that it read. The only error is running out of memory.
+// Returns the reply of a command to the bytes that it read. Returns an error if memory runs out.
 fn reply_of(alloc: Global, command: PlainCommand, bytes: &[u8]) -> Result<Reply, AllocError>
     requires range { IsInRange (Plain command) }
     requires few { length bytes.now ≤ most_script_bytes }
@@ -122,7 +122,7 @@ fn reply_of(alloc: Global, command: PlainCommand, bytes: &[u8]) -> Result<Reply,
     }
 }
 
-/// Writes a reply, and answers its status, or that the sink failed. Each write but a failed last one takes a byte.
+/// Writes a reply, and returns its status, or that the sink failed. Each write but a failed last one takes a byte.
 pub(crate) fn write_reply<K: Sink>(sink: &mut K, reply: &Reply) -> u8
     ensures { HasWritten (record { held = K.held sink.old; faults = K.faults sink.old; writes = K.writes sink.old })
         (record { held = K.held sink.new; faults = K.faults sink.new; writes = K.writes sink.new }) reply.now result }

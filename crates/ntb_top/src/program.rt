@@ -27,7 +27,7 @@ use std::thread::Threads;
 use step_kinds::RunRecord;
 use traffic_command::{TrafficReply, run_reply};
 
-/// Does all that the program does, and answers the exit status. It reads its input from the source where the words are
+/// Does all that the program does, and returns the exit status. It reads its input from the source where the words are
 /// a command that reads, and writes one text to the sink. Each read but the last gives a byte, and each write but a
 /// failed last one takes a byte. On words that aren't `run` or `stream` it does what
 /// [`plain_program`](crate::plain_program) does. On these two each worker passes the gate before each of its turns, and
@@ -87,7 +87,7 @@ pub fn run_program<R: Threads + Wait + Sync, S: Source, K: Sink, G: Gate>(
     }
 }
 
-// The program on a command that takes no thread, or on words that are no command.
+// Runs the program on a command that takes no thread, or on words that are no command.
 fn plain_end<S: Source, K: Sink>(
     alloc: Global,
     command: Option<PlainCommand>,
@@ -117,7 +117,7 @@ fn plain_end<S: Source, K: Sink>(
     Ended::alone(alloc, run_plain(alloc, command, source, sink))
 }
 
-// The program on the word `run`.
+// Runs the program on the word `run`.
 fn run_traffic<R: Threads + Wait + Sync, S: Source, K: Sink, G: Gate>(
     rt: &R,
     alloc: Global,

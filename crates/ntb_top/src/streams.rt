@@ -23,7 +23,7 @@ use std::sync::Wait;
 use std::thread::Threads;
 use traffic_command::{TrafficReply, stream_reply};
 
-/// The program on the word `stream`.
+/// Runs the program on the word `stream`.
 pub(crate) fn stream_traffic<R: Threads + Wait + Sync, S: Source, K: Sink, G: Gate>(
     rt: &R,
     alloc: Global,

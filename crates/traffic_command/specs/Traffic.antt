@@ -5,7 +5,7 @@ use Rattle.script_words.specs.declared.fault.ScriptFault.{ScriptFault}
 use Rattle.step_kinds.specs.declared.plan.Plan.{Plan}
 use Rattle.table_lane.specs.EndOfLane.{Shown}
 
--- what comes with the text of a command: the record of a threaded run, where it is that of one, and the proofs of its
+-- what comes with the text of a command: the record of a threaded run, if it is that of one, and the proofs of its
 -- sessions
 pub record TrafficCarried (S : Type 0) : Type 0 where
   pub recorded : Option S

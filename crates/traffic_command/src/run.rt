@@ -23,9 +23,9 @@ use std::sync::Wait;
 use std::thread::Threads;
 use step_kinds::RunRecord;
 
-/// The reply of `run` to a script of at most 16,777,216 bytes. Where it declares a plan, threads send the plan's
+/// Returns the reply of `run` to a script of at most 16,777,216 bytes. If it declares a plan, threads send the plan's
 /// traffic. The reply is then the text of the record of that, with status 0, beside the record and its proofs. Else it
-/// says the first line with a fault, with status 3. The only error is running out of memory.
+/// says the first line with a fault, with status 3. Returns an error if memory runs out.
 ///
 /// Each worker of the run passes the gate before each of its turns. The gate has to let all workers with numbers below
 /// 262,140 pass, before each turn with a number below 2^64.
@@ -46,7 +46,7 @@ pub fn run_reply<R: Threads + Wait + Sync, G: Gate>(
     }
 }
 
-// The reply to a script without a fault.
+// Returns the reply to a script without a fault.
 fn run_script<R: Threads + Wait + Sync, G: Gate>(
     rt: &R,
     alloc: Global,
@@ -66,7 +66,7 @@ fn run_script<R: Threads + Wait + Sync, G: Gate>(
     })
 }
 
-// The reply to a script with a fault.
+// Returns the reply to a script with a fault.
 fn refusal(alloc: Global, fault: ScriptFault) -> TrafficReply<RunRecord>
     ensures { IsRefusal fault result.reply (carried_by result) }
 {

@@ -22,9 +22,9 @@ use std::alloc::{AllocError, Global};
 use std::sync::Wait;
 use std::thread::Threads;
 
-/// The reply of `stream` to a script of at most 16,777,216 bytes. Where it declares a plan, threads send the plan's
-/// traffic as resumable streams. The reply is then the text of the record of that, with status 0, beside the record and
-/// its proofs. Else it says the first line with a fault, with status 3. The only error is running out of memory.
+/// Returns the reply of `stream` to a script of at most 16,777,216 bytes. If it declares a plan, threads send the
+/// plan's traffic as resumable streams. The reply is then the text of the record of that, with status 0, beside the
+/// record and its proofs. Else it says the first line with a fault, with status 3. Returns an error if memory runs out.
 ///
 /// Each worker passes the gate before each of its turns. The gate has to let all workers with numbers below 524,280
 /// pass, before each turn with a number below 2^64.
@@ -45,7 +45,7 @@ pub fn stream_reply<R: Threads + Wait + Sync, G: Gate>(
     }
 }
 
-// The reply to a script without a fault.
+// Returns the reply to a script without a fault.
 fn stream_script<R: Threads + Wait + Sync, G: Gate>(
     rt: &R,
     alloc: Global,
@@ -65,7 +65,7 @@ fn stream_script<R: Threads + Wait + Sync, G: Gate>(
     })
 }
 
-// The reply to a script with a fault.
+// Returns the reply to a script with a fault.
 fn refusal(alloc: Global, fault: ScriptFault) -> TrafficReply<StreamRecord>
     ensures { IsRefusal fault result.reply (streamed_by result) }
 {

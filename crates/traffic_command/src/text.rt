@@ -11,8 +11,8 @@ use report_text::push_stream;
 use std::alloc::{AllocError, Global};
 use step_kinds::{PairPlan, Plan};
 
-/// The text of a record of streams: for each lane a line with how many items it brought over how many sessions, then
-/// the items, numbered from 0; and `end`. The only error is running out of memory.
+/// Returns the text of a record of streams: for each lane a line with how many items it brought over how many sessions,
+/// then the items, numbered from 0; and `end`. Returns an error if memory runs out.
 ///
 /// Each lane names a pair of the plan.
 pub(crate) fn streams_text(

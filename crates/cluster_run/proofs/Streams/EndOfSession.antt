@@ -33,13 +33,13 @@ pub record LanesEnd (source : SourceEnd) (sink : SinkEnd) (cut : Bool) (item_pro
   pub items_order : source.send.part.sent ≡ sink.recv.part.got ++ left
   pub acks_order : sink.send.part.sent ≡ source.recv.part.got ++ acks_left
 
--- what a proof shows, where another word says whether the link was cut
+-- what a proof shows, if another word says whether the link was cut
 pub shown_with : {sent got : List (List ℕ)} {entries : ℕ} {cut cut' : Bool} {proof : Shown} → proof ≡ record { sent = sent; got = got; entries = entries; cut = cut } → cut ≡ cut' → proof ≡ record { sent = sent; got = got; entries = entries; cut = cut' }
 shown_with {sent = sent} {got = got} {entries = entries} shown same = shown ∙ ap (λ (cut : Bool). record { sent = sent; got = got; entries = entries; cut = cut }) same
 
--- Where source and sink leave their ends and both lanes end, the session ends with these ends and both proofs.
+-- If source and sink leave their ends and both lanes end, the session ends with these ends and both proofs.
 pub ends_with : (s : Inside) (session : StreamSessionState) (source : SourceEnd) (sink : SinkEnd) (item_proof ack_proof : Shown) (left acks_left : List (List ℕ)) → IsStreamSession s → stream_session_of s ≡ session
-    → LeavesSource s.source source → LeavesSink s.sink sink → LanesEnd source sink s.cutting.cut item_proof ack_proof left acks_left
+    → LeavesSource s.team.giver source → LeavesSink s.team.taker sink → LanesEnd source sink s.team.cutter.cut item_proof ack_proof left acks_left
     → StreamEndsWith session (record { sender = source.sender; receiver = sink.receiver; acks = source.acks; item_proof = item_proof; ack_proof = ack_proof })
 ends_with s session source sink item_proof ack_proof left acks_left holds session_is leaves keeps ends =
     let end : SessionEnd = record { sender = source.sender; receiver = sink.receiver; acks = source.acks; item_proof = item_proof; ack_proof = ack_proof } in
@@ -56,10 +56,10 @@ ends_with s session source sink item_proof ack_proof left acks_left holds sessio
     let most = offered.few in
     subst (λ (session : StreamSessionState). StreamEndsWith session end) session_is (record {
       exchange = record { sent = source.send.part.sent; got = sink.recv.part.got; acks_sent = sink.send.part.sent; acks_got = source.recv.part.got };
-      items_shown = ends.items_shown ∙ ap (λ (n : ℕ). record { sent = source.send.part.sent; got = sink.recv.part.got; entries = n; cut = s.cutting.cut }) entries;
-      acks_shown = ends.acks_shown ∙ ap (λ (n : ℕ). record { sent = sink.send.part.sent; got = source.recv.part.got; entries = n; cut = s.cutting.cut }) ack_entries;
+      items_shown = ends.items_shown ∙ ap (λ (n : ℕ). record { sent = source.send.part.sent; got = sink.recv.part.got; entries = n; cut = s.team.cutter.cut }) entries;
+      acks_shown = ends.acks_shown ∙ ap (λ (n : ℕ). record { sent = sink.send.part.sent; got = source.recv.part.got; entries = n; cut = s.team.cutter.cut }) ack_entries;
       in_order = record { items = (left, ends.items_order); acks = (acks_left, ends.acks_order) };
-      sent = given_begins source.sender s.source.key.items s.source.key.start source.send.part.sent leaves.items leaves.start offered.given;
+      sent = given_begins source.sender s.team.giver.key.items s.team.giver.key.start source.send.part.sent leaves.items leaves.start offered.given;
       taken = keeps.taken;
       kept = keeps.kept;
       acks = keeps.acks;

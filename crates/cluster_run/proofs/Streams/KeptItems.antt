@@ -17,11 +17,11 @@ use Rattle.cluster_run.specs.declared.stream.sink.Sink.TheInside.{Inside}
 same_front : (n most : ℕ) (before after : List (List ℕ)) → n ≤ length before → Grows most before after → take n before ≡ take n after
 same_front n most before after within grows = ap (take n) (sym grows.front) ∙ take-take n (length before) after within
 
--- what the receiver took in turns, where there was memory for all
+-- what the receiver took in turns, if there was memory for all
 abbrev pub Took : Inside → Inside → Type 0
 Took w w' = (start : Receiver) → w.receiver ≡ fold taken start w.end.part.got → w'.receiver ≡ fold taken start w'.end.part.got
 
--- A sink in which further items joined is still a right one, where they are of what came and below 2^32 in all.
+-- A sink in which further items joined is still a right one, if they are of what came and below 2^32 in all.
 pub kept_more : (w w' : Inside) (most : ℕ) → IsSink w → w'.begun ≡ w.begun → w'.told ≡ w.told → w'.acks ≡ w.acks → Grows most w.receiver.items w'.receiver.items → length w.receiver.items + most < 2 ^ 32
     → (w'.is_wanting ≡ false → (w.is_wanting ≡ false) × Took w w') → IsSink w'
 kept_more w w' most holds begun told acks grows few takes =

@@ -67,7 +67,7 @@ sent_when before after frame number true free answer is = absurd (cc answer)
 sent_when before after frame number false true answer is = ap (λ (p : SendPart). p.sent) is
 sent_when before after frame number false false answer is = absurd (cc answer)
 
--- Where a frame is answered as sent, it stands after the frames that its end sent before.
+-- If a frame is answered as sent, it stands after the frames that its end sent before.
 pub sent_more : (before after : SendPart) (frame : List ℕ) (number : ℕ) → TableSends before frame (Sent number) after → after.sent ≡ before.sent ++ frame ∷ []
 sent_more before after frame number sends =
     sent_when before after frame number (after.link == cut_word) (nat_lt 0 (free_by before after.index)) sends.0 sends.1

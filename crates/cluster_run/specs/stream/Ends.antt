@@ -23,7 +23,7 @@ pub record StreamGoesOn (before after : Sender) : Type 0 where
   pub start : after.start ≡ before.start
   pub ever : before.place.ever ≤ after.place.ever
 
--- items were kept after others, at most so many
+-- items were kept after others, at most this many
 pub record Grows (most : ℕ) (before after : List (List ℕ)) : Type 0 where
   pub front : take (length before) after ≡ before
   pub no_fewer : length before ≤ length after

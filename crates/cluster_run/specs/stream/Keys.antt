@@ -11,7 +11,7 @@ use Rattle.cluster_run.specs.stream.Streams.{StreamShown, stream_proofs}
 abbrev pub stream_numbers : ℕ → ℕ → List ℕ
 stream_numbers lanes number = number ∷ (lanes + number) ∷ []
 
--- each of these streams at work has the numbers of its place, where so many lanes have traffic
+-- each of these streams at work has the numbers of its place, if this many lanes have traffic
 abbrev pub AreNumbered : ℕ → List LaneState → Type 0
 AreNumbered lanes works = map (λ (work : LaneState). work.numbers) works ≡ map (λ (work : LaneState). stream_numbers lanes work.key.number) works
 

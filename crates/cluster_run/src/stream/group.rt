@@ -19,11 +19,11 @@ use std::sync::Wait;
 use std::thread::Threads;
 use step_kinds::limits::MOST_TRAFFIC_ENTRIES;
 
-/// The two rings of a stream have at most so many entries.
+/// The two rings of a stream have at most this many entries.
 const STREAM_ENTRIES: u32 = 2 * MOST_TRAFFIC_ENTRIES;
 
-/// Opens the stream `first` and those of the lanes that wait which may be open together with it, in order, where so
-/// many lanes have traffic. The only error is running out of memory.
+/// Opens the stream `first` and those of the lanes that wait which may be open together with it, in order, if this many
+/// lanes have traffic. Returns an error if memory runs out.
 pub(crate) fn next_group(
     alloc: Global,
     lanes: u32,
@@ -46,8 +46,8 @@ pub(crate) fn next_group(
     Ok(works)
 }
 
-/// Rounds of the streams of a group, until all are over. What their work comes to stays. The only error is running out
-/// of memory.
+/// Rounds of the streams of a group, until all are over. What their work comes to stays. Returns an error if memory
+/// runs out.
 pub(crate) fn finished_group<R: Threads + Wait + Sync, G: Gate>(
     rt: &R,
     alloc: Global,

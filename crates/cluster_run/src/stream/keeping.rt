@@ -11,8 +11,7 @@ use resume_stream::StreamReceiver;
 use std::alloc::AllocError;
 use table_lane::{RecvAnswer, RecvEnd, SendAnswer, SendEnd};
 
-// One turn: where a frame has landed, the stream takes it, and true is answered. The only error is running out of
-// memory.
+// One turn: where a frame has landed, the stream takes it, and true is answered. Returns an error if memory runs out.
 fn keep_next(end: &mut RecvEnd, receiver: &mut StreamReceiver) -> Result<bool, AllocError>
     requires { length receiver.old.items + 1 < 2 ^ 32 }
     ensures taken { OnOk result ((start : Receiver) → receiver.old ≡ fold taken start end.old.part.got → receiver.new ≡ fold taken start end.new.part.got) }
@@ -28,13 +27,13 @@ fn keep_next(end: &mut RecvEnd, receiver: &mut StreamReceiver) -> Result<bool, A
     }
 }
 
-// How many turns in a row were empty, with one turn more.
+// Returns how many turns in a row were empty, with one turn more.
 fn empty_after(empty: u32, came: bool) -> u32 {
     if came { 0 } else { empty.saturating_add(1) }
 }
 
-/// Makes at least 1 and at most so many turns, and answers how many. Before each it passes the gate with the turn's
-/// number, counted from `first`. It ends early where nothing came for a while. The only error is running out of memory.
+/// Makes at least 1 and at most this many turns, and returns how many. Before each it passes the gate with the turn's
+/// number, counted from `first`. It ends early where nothing came for a while. Returns an error if memory runs out.
 pub(crate) fn keep_pass<G: TurnGate>(
     end: &mut RecvEnd,
     receiver: &mut StreamReceiver,
@@ -61,8 +60,7 @@ pub(crate) fn keep_pass<G: TurnGate>(
     Ok(made)
 }
 
-/// Sends how many items the stream keeps, and answers whether the lane took it. The only error is running out of
-/// memory.
+/// Sends how many items the stream keeps, and returns whether the lane took it. Returns an error if memory runs out.
 pub(crate) fn acknowledge(receiver: &StreamReceiver, end: &mut SendEnd) -> Result<bool, AllocError>
     requires { length end.old.part.sent < most_lane_frames }
     ensures sent { IfOk result (λ told. end.new.part.sent ≡ (if told then end.old.part.sent ++ ack_frame receiver.now ∷ [] else end.old.part.sent)) }

@@ -38,8 +38,8 @@ pub(crate) struct StreamWork {
 }
 
 impl StreamWork {
-    /// A stream in its first session, where so many lanes have traffic: after their numbers come those of the lanes of
-    /// acknowledgements. The only error is running out of memory.
+    /// Returns a stream in its first session, if this many lanes have traffic: after their numbers come those of the
+    /// lanes of acknowledgements. Returns an error if memory runs out.
     pub(crate) fn new(alloc: Global, lanes: u32, task: LaneTask) -> Result<StreamWork, AllocError>
         requires { lanes ≤ most_lanes }
         ensures key { IfOk result (λ work. work.key ≡ task) }
@@ -70,8 +70,8 @@ impl StreamWork {
         })
     }
 
-    // With how many items kept the session is cut: its share of those that the stream lacks, where a loss of the link
-    // is ahead.
+    // With how many items kept the session is cut: its share of those that the stream lacks, if a loss of the link is
+    // ahead.
     fn cut_after(&self) -> Option<usize> {
         let total = self.session.total();
         match self.ahead {
@@ -96,7 +96,7 @@ impl StreamWork {
         self.session.pass(rt, gate, way, cut_after);
     }
 
-    /// Ends a stream that is over: its record, and the proofs of its sessions. The only error is running out of memory.
+    /// Ends a stream that is over: its record, and the proofs of its sessions. Returns an error if memory runs out.
     pub(crate) fn ended(self) -> Result<(StreamRun, Vec<LaneProof>), AllocError>
         requires { self.over ≡ true }
         ensures { IfOk result (λ end. StreamComesTo self.key (stream_shown end.0) end.1.items) }

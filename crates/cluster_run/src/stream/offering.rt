@@ -32,8 +32,8 @@ pub(crate) struct Pass {
     pub(crate) last: Turn,
 }
 
-// One turn: the stream's next frame is sent, or given back where the lane refuses it. The only error is running out of
-// memory.
+// One turn: the stream's next frame is sent, or given back where the lane refuses it. Returns an error if memory runs
+// out.
 fn offer(sender: &mut StreamSender, end: &mut SendEnd) -> Result<Turn, AllocError>
     requires { HasOffered sender.old end.old.part.sent }
     ensures offered { HasOffered sender.new end.new.part.sent }
@@ -59,7 +59,7 @@ fn offer(sender: &mut StreamSender, end: &mut SendEnd) -> Result<Turn, AllocErro
     }
 }
 
-// How many turns in a row were refused, with one turn more.
+// Returns how many turns in a row were refused, with one turn more.
 fn refused_after(refused: u32, turn: Turn) -> u32 {
     match turn {
         Turn::Sent => 0,
@@ -68,9 +68,9 @@ fn refused_after(refused: u32, turn: Turn) -> u32 {
     }
 }
 
-/// Makes at least 1 and at most so many turns. Before each it passes the gate with the turn's number, counted from
-/// `first`. It ends early where nothing is left to send, where the link was cut, or where the ring had no room for a
-/// while. The only error is running out of memory.
+/// Makes at least 1 and at most this many turns. Before each it passes the gate with the turn's number, counted from
+/// `first`. It ends early if nothing is left to send, if the link was cut, or if the ring had no room for a
+/// while. Returns an error if memory runs out.
 pub(crate) fn offer_pass<G: TurnGate>(
     sender: &mut StreamSender,
     end: &mut SendEnd,
@@ -103,7 +103,7 @@ pub(crate) fn offer_pass<G: TurnGate>(
 }
 
 impl Pass {
-    // The pass with one turn more.
+    // Returns the pass with one turn more.
     fn with(self, turn: Turn) -> Pass
         requires { self.turns < 2 ^ 32 - 1 }
         ensures { result.turns ≡ self.turns + 1 }

@@ -17,18 +17,18 @@ pub(crate) struct PairMoving {
     pub(crate) acks: Moving,
 }
 
-/// At most so many moves of acknowledgements are made after a pass.
+/// At most this many moves of acknowledgements are made after a pass.
 const ACK_TURNS: u32 = 16;
 
 impl PairMoving {
-    /// The workers of a new session.
+    /// Returns the workers of a new session.
     pub(crate) fn new(items: Moving, acks: Moving) -> PairMoving
         ensures { result ≡ record { key = key_of_both items.key acks.key; tries = items.tries; loads = items.loads } }
     {
         PairMoving { items, acks }
     }
 
-    /// Makes at most so many turns on the lane of items, and answers how many, and makes a few on the other.
+    /// Makes at most this many turns on the lane of items, and returns how many, and makes a few on the other.
     pub(crate) fn pass<G: TurnGate>(&mut self, gate: &G, turns: u32) -> u32
         requires some { 1 ≤ turns }
         requires gate { LetsBoth (G.lets gate.now) self.old.key.workers }
@@ -58,11 +58,17 @@ impl PairMoving {
 }
 
 impl Worker for PairMoving {
-    ghost use Rattle.cluster_run.specs.stream.Workers.{PairKey};
+    ghost use Rattle.cluster_run.specs.stream.Workers.{LetsBoth, PairKey};
 
     ghost Key = { PairKey };
 
     ghost key = { λ w. w.key };
+
+    ghost Lets = { λ lets key. LetsBoth lets key.workers };
+
+    fn pass<G: TurnGate>(&mut self, gate: &G, turns: u32) -> u32 {
+        PairMoving::pass(self, gate, turns)
+    }
 }
 
 impl Model for PairMoving {
@@ -83,7 +89,7 @@ pub(crate) struct PairCutting {
 }
 
 impl PairCutting {
-    /// The workers of a new session, in which the link isn't cut.
+    /// Returns the workers of a new session, in which the link isn't cut.
     pub(crate) fn new(items: Cutting, acks: Cutting) -> PairCutting
         requires { (items.cut ≡ false) × (acks.cut ≡ false) }
         ensures { result ≡ record { key = key_of_both items.key acks.key; cut = false } }
@@ -101,7 +107,7 @@ impl PairCutting {
         self.acks.pass(gate);
     }
 
-    /// Whether the link was cut.
+    /// Returns whether the link was cut.
     pub(crate) fn is_cut(&self) -> bool
         ensures { result ≡ self.now.cut }
     {
@@ -121,11 +127,18 @@ impl PairCutting {
 }
 
 impl Worker for PairCutting {
-    ghost use Rattle.cluster_run.specs.stream.Workers.{PairKey};
+    ghost use Rattle.cluster_run.specs.stream.Workers.{LetsBoth, PairKey};
 
     ghost Key = { PairKey };
 
     ghost key = { λ w. w.key };
+
+    ghost Lets = { λ lets key. LetsBoth lets key.workers };
+
+    fn pass<G: TurnGate>(&mut self, gate: &G, turns: u32) -> u32 {
+        PairCutting::pass(self, gate);
+        turns.min(1)
+    }
 }
 
 impl Model for PairCutting {

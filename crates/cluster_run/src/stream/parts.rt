@@ -39,7 +39,7 @@ impl StreamParts {
         self.proofs.append(&mut proofs)
     }
 
-    /// Adds streams that are over after the others, in order. The only error is running out of memory.
+    /// Adds streams that are over after the others, in order. Returns an error if memory runs out.
     pub(crate) fn add_all(&mut self, works: Vec<StreamWork>) -> Result<(), AllocError>
         requires { All (λ work. work.over ≡ true) works.items }
         ensures { OnOk result ((keys : List LaneKey) → ComeTo StreamComesTo keys (map stream_shown self.old.lanes.items) self.old.proofs.items → ComeTo StreamComesTo (keys ++ keys_of works.items) (map stream_shown self.new.lanes.items) self.new.proofs.items) }

@@ -29,9 +29,9 @@ use table_lane::LaneProof;
 /// or at the first item. The last one ends when all items are kept.
 ///
 /// Lanes are numbered from 0 in the record's order. Before each turn a worker passes the gate with its number. Of lane
-/// n that is 4n where it sends, 4n + 1 where it moves frames, 4n + 2 where it receives and 4n + 3 where it is cut.
-/// Where k lanes have traffic, the acknowledgements of lane n are lane k + n. Turns count from 0 in each session. The
-/// gate has to let all workers with numbers below 524,280 pass, before each turn with a number below 2^64.
+/// n that is 4n where it sends, 4n + 1 where it moves frames, 4n + 2 where it receives and 4n + 3 where it is cut. If k
+/// lanes have traffic, the acknowledgements of lane n are lane k + n. Turns count from 0 in each session. The gate has
+/// to let all workers with numbers below 524,280 pass, before each turn with a number below 2^64.
 ///
 /// Of up to four lanes whose rings are open together the two ends of each, its movers and what cuts it have threads of
 /// their own. Of more a thread makes the turns of several, those of one lane in turn. Where no thread can be made the
@@ -39,7 +39,7 @@ use table_lane::LaneProof;
 ///
 /// # Errors
 ///
-/// [`AllocError`] only when out of memory.
+/// [`AllocError`] if memory runs out.
 pub fn run_stream<R: Threads + Wait + Sync, G: Gate>(
     rt: &R,
     alloc: Global,

@@ -14,7 +14,7 @@ use crate::stream::sink::{Sink, SinkEnd};
 use crate::stream::source::{ACK_ROOM, Source, SourceEnd};
 use crate::workers::{Cutting, Moving, room_for};
 use io_edges::Gate;
-use lane_workers::{Aim, Way, round};
+use lane_workers::{Aim, Team, Way};
 use resume_stream::{StreamReceiver, StreamSender};
 use std::alloc::{AllocError, Global};
 use std::marker::Model;
@@ -25,10 +25,7 @@ use table_lane::{BackEnd, CutEnd, LaneProof, MoveEnd, RecvEnd, SendEnd, finish, 
 /// A session of a stream: its workers, at two tables.
 #[derive(Drop)]
 pub(crate) struct Session {
-    source: Source,
-    moving: PairMoving,
-    sink: Sink,
-    cutting: PairCutting,
+    team: Team<Source, PairMoving, Sink, PairCutting>,
     entries: u32,
     total: usize,
 }
@@ -49,8 +46,8 @@ pub(crate) struct SessionEnd {
 // The ends of a lane.
 type LaneEnds = (SendEnd, MoveEnd, RecvEnd, BackEnd, CutEnd);
 
-// What a session takes memory for: a list with room for its acknowledgements, and two lanes. The only error is running
-// out of memory.
+// Returns what a session takes memory for: a list with room for its acknowledgements, and two lanes. Returns an error
+// if memory runs out.
 fn new_lanes(alloc: Global, entries: u32) -> Result<(FrameList, LaneEnds, LaneEnds), AllocError>
     requires { (2 ≤ entries) × (entries ≤ most_traffic_entries) }
     ensures got { IfOk result (λ made. (made.0.frames ≡ []) × (made.0.spare ≡ ACK_ROOM)) }
@@ -64,8 +61,8 @@ fn new_lanes(alloc: Global, entries: u32) -> Result<(FrameList, LaneEnds, LaneEn
 }
 
 impl Session {
-    /// A session of a stream in rings of so many entries: its lanes have these numbers. The only error is out of
-    /// memory.
+    /// Returns a session of a stream in rings of this many entries: its lanes have these numbers. Returns an error if
+    /// memory runs out.
     pub(crate) fn new(
         alloc: Global,
         numbers: LaneNumbers,
@@ -95,101 +92,73 @@ impl Session {
             Cutting::new(item_cut, item_worker + 3),
             Cutting::new(ack_cut, ack_worker + 3),
         );
+        let team = Team {
+            giver: source,
+            mover: moving,
+            taker: sink,
+            cutter: cutting,
+        };
         Ok(Session {
-            source,
-            moving,
-            sink,
-            cutting,
+            team,
             entries,
             total,
         })
     }
 
     /// A round of the session. Its workers make their passes in this way.
-    pub(crate) fn pass<R: Threads + Sync, G: Gate>(
-        &mut self,
-        rt: &R,
-        gate: &G,
-        way: Way,
-        cut_after: Option<usize>,
-    )
+    pub(crate) fn pass<R, G>(&mut self, rt: &R, gate: &G, way: Way, cut_after: Option<usize>)
+    where
+        R: Threads + Sync,
+        G: Gate,
         requires { LetsSession (G.lets gate.now) self.old.first }
         ensures first { self.new.first ≡ self.old.first }
         ensures key { self.new.key ≡ self.old.key }
         ensures ever { self.old.ever ≤ self.new.ever }
     {
-        let aim = self.aim(cut_after);
-        round(
-            rt,
-            way,
-            &mut self.source,
-            &|turns, worker: &mut Source|
-                requires { (1 ≤ turns) × LetsBoth (G.lets gate.now) worker.old.key.workers }
-            { worker.pass(gate, turns) },
-            &mut self.moving,
-            &|turns, worker: &mut PairMoving|
-                requires { (1 ≤ turns) × LetsBoth (G.lets gate.now) worker.old.key.workers }
-            { worker.pass(gate, turns) },
-            &mut self.sink,
-            &|turns, worker: &mut Sink|
-                requires { (1 ≤ turns) × LetsBoth (G.lets gate.now) worker.old.key.workers }
-            { worker.pass(gate, turns) },
-            &mut self.cutting,
-            &|turns, worker: &mut PairCutting|
-                requires { (1 ≤ turns) × LetsBoth (G.lets gate.now) worker.old.key.workers }
-            {
-                worker.pass(gate);
-                turns.min(1)
-            },
-            aim,
-        );
-    }
-
-    // What a round is to come to.
-    fn aim(&self, cut_after: Option<usize>) -> Aim {
-        Aim {
+        let aim = Aim {
             total: self.total,
             cut_after,
             entries: self.entries,
-        }
+        };
+        self.team.round(rt, gate, way, aim);
     }
 
-    /// How many items the stream has.
+    /// Returns how many items the stream has.
     pub(crate) fn total(&self) -> usize
         ensures { result ≡ length self.now.key.items }
     {
         self.total
     }
 
-    /// How many items were kept as the session began.
+    /// Returns how many items were kept as the session began.
     pub(crate) fn begun(&self) -> usize {
-        self.sink.begun
+        self.team.taker.begun
     }
 
-    /// How many items are kept.
+    /// Returns how many items are kept.
     pub(crate) fn kept(&self) -> usize
         ensures { result ≡ self.now.kept }
     {
-        self.sink.kept()
+        self.team.taker.kept()
     }
 
-    /// Whether the link was cut.
+    /// Returns whether the link was cut.
     pub(crate) fn is_cut(&self) -> bool
         ensures { result ≡ self.now.cut }
     {
-        self.cutting.is_cut()
+        self.team.cutter.is_cut()
     }
 
-    /// Whether there was no memory for a frame: the session can't end then.
+    /// Returns whether there was no memory for a frame: the session can't end then.
     pub(crate) fn is_wanting(&self) -> bool {
-        self.source.is_wanting || self.sink.is_wanting
+        self.team.giver.is_wanting || self.team.taker.is_wanting
     }
 
-    /// Ends the session. The only error is running out of memory, which a worker may have met before.
+    /// Ends the session. Returns an error if memory runs out, which a worker may have met before.
     pub(crate) fn ended(self) -> Result<SessionEnd, AllocError>
         ensures { IfOk result (λ end. StreamEndsWith self end) }
     {
-        if self.source.is_wanting {
+        if self.team.giver.is_wanting {
             // One call drops all its fields: dropped at the return, each would be a step of this function's proof.
             drop(self);
             return Err(AllocError);
@@ -197,17 +166,17 @@ impl Session {
         self.into_end()
     }
 
-    // What the session leaves. The only error is running out of memory, which its sink may have met before.
+    // Returns what the session leaves. Returns an error if memory runs out, which its sink may have met before.
     fn into_end(self) -> Result<SessionEnd, AllocError>
         ensures { IfOk result (λ end. StreamEndsWith self end) }
     {
-        let Session {
-            source,
-            moving,
-            sink,
-            cutting,
-            ..
-        } = self;
+        let Session { team, .. } = self;
+        let Team {
+            giver: source,
+            mover: moving,
+            taker: sink,
+            cutter: cutting,
+        } = team;
         let SinkEnd {
             receiver,
             recv: item_recv,

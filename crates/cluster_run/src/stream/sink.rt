@@ -27,7 +27,7 @@ pub(crate) struct Sink {
     pub(crate) begun: usize,
     /// How many items it acknowledged last in this session, or 0.
     pub(crate) told: usize,
-    /// With so many items more it acknowledges again.
+    /// With this many items more it acknowledges again.
     pub(crate) step: usize,
     pub(crate) clock: Clock,
     pub(crate) ack_clock: Clock,
@@ -45,13 +45,13 @@ pub(crate) struct SinkEnd {
     pub(crate) send: SendEnd,
 }
 
-/// So many acknowledgements are made of a whole traffic in a session.
+/// The acknowledgements of a whole traffic in a session.
 const ACKS: usize = 512;
 
-/// A stream keeps at most so many items.
+/// A stream keeps at most this many items.
 const MOST_ITEMS: usize = u32::MAX as usize;
 
-// So many turns, where so many items are kept, that a stream may keep an item of each.
+// This many turns, if this many items are kept, that a stream may keep an item of each.
 fn turns_within(kept: usize, turns: u32) -> u32
     ensures { kept < 2 ^ 32 → kept + result < 2 ^ 32 }
 {
@@ -59,8 +59,8 @@ fn turns_within(kept: usize, turns: u32) -> u32
 }
 
 impl Sink {
-    /// The sink of a stream of so many items in a new session, by the numbers of its two lanes. Nothing was sent or
-    /// received.
+    /// Returns the sink of a stream of this many items in a new session, by the numbers of its two lanes. Nothing was
+    /// sent or received.
     pub(crate) fn new(
         receiver: StreamReceiver,
         recv: RecvEnd,
@@ -89,7 +89,7 @@ impl Sink {
         }
     }
 
-    /// Makes at most so many turns that keep, and one that acknowledges. It answers how many the first were.
+    /// Makes at most this many turns that keep, and one that acknowledges. Returns how many the first were.
     pub(crate) fn pass<G: TurnGate>(&mut self, gate: &G, turns: u32) -> u32
         requires { LetsBoth (G.lets gate.now) self.old.key.workers }
         ensures { self.new.key ≡ self.old.key }
@@ -130,7 +130,7 @@ impl Sink {
         }
     }
 
-    // The turn that acknowledges, where so many items more are kept.
+    // The turn that acknowledges, if this many items more are kept.
     fn acknowledge<G: TurnGate>(&mut self, gate: &G)
         requires { LetsWorker (G.lets gate.now) self.old.key.workers.acks }
         ensures { self.new.key ≡ self.old.key }
@@ -149,7 +149,7 @@ impl Sink {
         }
     }
 
-    /// How many items are kept.
+    /// Returns how many items are kept.
     pub(crate) fn kept(&self) -> usize
         ensures { result ≡ self.now.kept }
     {
@@ -158,7 +158,7 @@ impl Sink {
 }
 
 impl Sink {
-    /// What it leaves at the end of a session. The only error is running out of memory, where it met that before.
+    /// Returns what it leaves at the end of a session. Returns an error if memory ran out before.
     pub(crate) fn ended(self) -> Result<SinkEnd, AllocError>
         ensures { IfOk result (λ end. LeavesSink self end) }
     {
@@ -181,11 +181,17 @@ impl Sink {
 }
 
 impl Worker for Sink {
-    ghost use Rattle.cluster_run.specs.stream.Workers.{SinkKey};
+    ghost use Rattle.cluster_run.specs.stream.Workers.{LetsBoth, SinkKey};
 
     ghost Key = { SinkKey };
 
     ghost key = { λ w. w.key };
+
+    ghost Lets = { λ lets key. LetsBoth lets key.workers };
+
+    fn pass<G: TurnGate>(&mut self, gate: &G, turns: u32) -> u32 {
+        Sink::pass(self, gate, turns)
+    }
 }
 
 impl Taker for Sink {

@@ -27,7 +27,7 @@ pub(crate) struct Source {
     pub(crate) end: SendEnd,
     pub(crate) acks: Receiving,
     pub(crate) clock: Clock,
-    /// At most so many frames are left to give in this session.
+    /// At most this many frames are left to give in this session.
     pub(crate) left: usize,
     /// Whether there was no memory for a frame.
     pub(crate) is_wanting: bool,
@@ -45,15 +45,15 @@ pub(crate) struct SourceEnd {
     pub(crate) acks: FrameList,
 }
 
-/// At most so many acknowledgements come in a session.
+/// At most this many acknowledgements come in a session.
 pub(crate) const ACK_ROOM: usize = 1_024;
 
-/// At most so many acknowledgements are received after a pass.
+/// At most this many acknowledgements are received after a pass.
 const ACK_TURNS: u32 = 4;
 
 impl Source {
-    /// The source of a stream of so many items in a new session, by the numbers of its two lanes. The list has room for
-    /// `ACK_ROOM` acknowledgements. Nothing was sent or received.
+    /// Returns the source of a stream of this many items in a new session, by the numbers of its two lanes. The list
+    /// has room for `ACK_ROOM` acknowledgements. Nothing was sent or received.
     pub(crate) fn new(
         sender: StreamSender,
         send: SendEnd,
@@ -80,7 +80,7 @@ impl Source {
         }
     }
 
-    /// Makes at most so many turns that give, and a few that receive. It answers how many the first were.
+    /// Makes at most this many turns that give, and a few that receive. Returns how many the first were.
     pub(crate) fn pass<G: TurnGate>(&mut self, gate: &G, turns: u32) -> u32
         requires some { 1 ≤ turns }
         requires gate { LetsBoth (G.lets gate.now) self.old.key.workers }
@@ -120,7 +120,7 @@ impl Source {
 }
 
 impl Source {
-    /// What it leaves at the end of a session.
+    /// Returns what it leaves at the end of a session.
     pub(crate) fn ended(self) -> SourceEnd
         ensures { LeavesSource self result }
     {
@@ -135,13 +135,19 @@ impl Source {
 }
 
 impl Worker for Source {
-    ghost use Rattle.cluster_run.specs.stream.Workers.{SourceKey};
+    ghost use Rattle.cluster_run.specs.stream.Workers.{LetsBoth, SourceKey};
 
     ghost Key = { SourceKey };
 
     ghost key = { λ w. w.key };
 
     ghost reach = { λ w. w.ever };
+
+    ghost Lets = { λ lets key. LetsBoth lets key.workers };
+
+    fn pass<G: TurnGate>(&mut self, gate: &G, turns: u32) -> u32 {
+        Source::pass(self, gate, turns)
+    }
 }
 
 impl Giver for Source {
