@@ -21,9 +21,9 @@ COUNTS = {
 LINES = FRAMES + 1 + 2 + 1
 # A run that lacks memory is to end within this many seconds.
 MOST_SECONDS = 120
-# This many sizes are tried, of which this many are below one that let a whole run end. How much a run of several threads
-# takes differs from time to time; with the last size, the largest, each has enough. A thread's stack is small beside
-# them.
+# How many sizes are tried, and how many of them are below one that lets a whole run end. How much a run of several
+# threads takes differs from time to time; with the last size, the largest, each has enough. A thread's stack is small
+# beside them.
 MOST_SIZES, MOST_STEPS = 64, 56
 LARGEST = 1 << 30
 STACK = 1 << 19
