@@ -331,10 +331,21 @@ class Renames(Folder):
 
     def test_refused(self) -> None:
         """A name without a home, and a new name that is there already, are refused, and nothing changes."""
-        for words in (("one", "lost", "found"), ("one", "taken", "IsPart"), ("one", "taken", "twice")):
+        names = ("IsPart", "twice", "-x", "a=b", "a\nb", "")
+        for words in (("one", "lost", "found"), ("-x", "taken", "found"), *(("one", "taken", name) for name in names)):
             with self.subTest(" ".join(words)):
                 self.assertEqual(self.rename(*words), (1, "0 renamed, 1 refused"))
                 self.assertEqual(self.texts(), TREE)
+
+    def test_no_table(self) -> None:
+        """A table that can't be read, or whose line has two words, is an error, and nothing changes."""
+        table = str(self.write("table", "one taken\n"))
+        for name in (table, "-none", str(self.folder)):
+            tool = [str(TOP / "tools" / "rename"), "--table", name]
+            done = subprocess.run(tool, capture_output=True, text=True, cwd=self.folder, check=False)
+            self.assertEqual((done.returncode, done.stdout), (1, ""))
+            self.assertNotIn("Traceback", done.stderr)
+        self.assertEqual(self.texts(), TREE)
 
     def test_table(self) -> None:
         """A table is done as a whole, or with --skip as far as it can be."""
